@@ -1,0 +1,39 @@
+//! Where bytes come from.
+ghost use Rattle.std.specs.Prelude.{◌≡◌, ◌==◌, ℕ, ◌<◌, ◌≤◌, Bool, List, Option, length, IfOk, OnErr};
+ghost use Rattle.std.specs.Io.{ReadsAtMost};
+ghost use Rattle.std.specs.Io.KnownBytes.{ReadConsumes};
+ghost use Rattle.replay_io.specs.Faults.{Rose};
+ghost use Rattle.replay_io.specs.Streams.{EndsExactly};
+
+/// A read that failed. It took nothing, and its source counted a fault.
+#[derive(Clone, Copy, Debug, PartialEq, Eq)]
+pub struct Failed;
+
+/// A stream of bytes that is read to its end.
+///
+/// A source counts its faults. The count is a `u64` that never falls; one that stands at its
+/// last value counts as having risen.
+pub trait Source {
+    /// The bytes that reads will give from here on, where the source tells them.
+    ghost left: { Self → Option (List ℕ) };
+
+    /// How many faults there were.
+    ghost faults: { Self → ℕ };
+
+    /// Whether the last read that had room, and did not fail, met the end of the input.
+    ghost ended: { Self → Bool };
+
+    /// Puts the next bytes at the front of `into` and answers how many there are. Into a
+    /// buffer that is not empty it answers 0 exactly where nothing is left: the end of input.
+    ///
+    /// # Errors
+    /// `Failed` where the source counted a fault in this call; it then took nothing.
+    fn read(&mut self, into: &mut [u8]) -> Result<usize, Failed>
+        ensures bound { ReadsAtMost result into.new }
+        ensures bytes { ReadConsumes (left self.old) (left self.new) result into.new }
+        ensures end { EndsExactly (left self.old) result (length into.old) }
+        ensures ended { IfOk result (λ n. 0 < length into.old → ended self.new ≡ (n == 0)) }
+        ensures kept { OnErr result (ended self.new ≡ ended self.old) }
+        ensures later { faults self.old ≤ faults self.new }
+        ensures failed { OnErr result (Rose (faults self.old) (faults self.new)) };
+}
