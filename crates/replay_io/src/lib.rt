@@ -4,7 +4,9 @@
 mod memory;
 mod sink;
 mod source;
+mod streams;
 
 pub use memory::{MemorySink, MemorySource};
 pub use sink::{NotWritten, Sink};
 pub use source::{Failed, Source};
+pub use streams::write_all;

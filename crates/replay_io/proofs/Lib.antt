@@ -1,0 +1,2 @@
+-- Lemmas and invariants of the loops.
+pub mod Runs
