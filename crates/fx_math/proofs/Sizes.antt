@@ -1,0 +1,129 @@
+-- How large sums and products of whole numbers and of vectors grow.
+use Rattle.std.proofs.Common.{◌≡◌, ℕ, ◌+◌, ◌*◌, ◌^◌, ◌≤◌, ℤ, FitsSigned, w64, to_z, of_z, ◌+ℤ◌, ◌-ℤ◌, ◌*ℤ◌, unsigned_abs, arith, ap, ◌∙◌}
+use Rattle.std.proofs.lemmas.Int.{ints, unsigned_abs-mul, to_z-of_z}
+use mir.Syntax.{w128}
+use Rattle.std.proofs.Math.Nat.{mul-le-mul}
+use Rattle.fx_math.specs.declared.vectors.Vec3.{Vec3}
+use Rattle.fx_math.specs.Vec3.{reach, sub, dot, cross}
+
+abbrev made : ℤ → ℤ → ℤ → Vec3
+made x y z = record { x = x; y = y; z = z }
+
+-- two vectors with the same components
+pub same_vec : (v w : Vec3) → v.x ≡ w.x → v.y ≡ w.y → v.z ≡ w.z → v ≡ w
+same_vec v w e f g = ap (λ x. made x v.y v.z) e ∙ ap (λ y. made w.x y v.z) f ∙ ap (λ z. made w.x w.y z) g
+
+-- each component is within the reach
+pub abs_x : (v : Vec3) → unsigned_abs v.x ≤ reach v
+unfolding reach
+abs_x v = omega arith
+
+pub abs_y : (v : Vec3) → unsigned_abs v.y ≤ reach v
+unfolding reach
+abs_y v = omega arith
+
+pub abs_z : (v : Vec3) → unsigned_abs v.z ≤ reach v
+unfolding reach
+abs_z v = omega arith
+
+-- components within m make a reach within m
+pub reach_within : (v : Vec3) (m : ℕ) → unsigned_abs v.x ≤ m → unsigned_abs v.y ≤ m → unsigned_abs v.z ≤ m → reach v ≤ m
+unfolding reach
+reach_within v m x y z = omega arith
+
+pub abs-add : (a b : ℤ) → unsigned_abs (a +ℤ b) ≤ unsigned_abs a + unsigned_abs b
+abs-add a b = omega (arith, ints)
+
+pub abs-sub : (a b : ℤ) → unsigned_abs (a -ℤ b) ≤ unsigned_abs a + unsigned_abs b
+abs-sub a b = omega (arith, ints)
+
+pub abs-mul_le : (a b : ℤ) (m n : ℕ) → unsigned_abs a ≤ m → unsigned_abs b ≤ n → unsigned_abs (a *ℤ b) ≤ m * n
+abs-mul_le a b m n p q = rw (unsigned_abs-mul a b) (mul-le-mul p q)
+
+pub reach-sub : (a b : Vec3) → reach (sub a b) ≤ reach a + reach b
+unfolding sub
+reach-sub a b = reach_within (sub a b) _ (omega (arith, abs-sub a.x b.x, abs_x a, abs_x b)) (omega (arith, abs-sub a.y b.y, abs_y a, abs_y b)) (omega (arith, abs-sub a.z b.z, abs_z a, abs_z b))
+
+pub abs-dot : (a b : Vec3) → unsigned_abs (dot a b) ≤ 3 * (reach a * reach b)
+unfolding dot
+abs-dot a b =
+    let x = abs-mul_le a.x b.x _ _ (abs_x a) (abs_x b) in
+    let y = abs-mul_le a.y b.y _ _ (abs_y a) (abs_y b) in
+    let z = abs-mul_le a.z b.z _ _ (abs_z a) (abs_z b) in
+    let s = abs-add (a.x *ℤ b.x) (a.y *ℤ b.y) in
+    let t = abs-add (a.x *ℤ b.x +ℤ a.y *ℤ b.y) (a.z *ℤ b.z) in
+    omega arith
+
+abs-minor : (a b c d : ℤ) (m n : ℕ) → unsigned_abs a ≤ m → unsigned_abs b ≤ n → unsigned_abs c ≤ m → unsigned_abs d ≤ n → unsigned_abs (a *ℤ b -ℤ c *ℤ d) ≤ 2 * (m * n)
+abs-minor a b c d m n p q r s =
+    let x = abs-mul_le a b m n p q in
+    let y = abs-mul_le c d m n r s in
+    let t = abs-sub (a *ℤ b) (c *ℤ d) in
+    omega arith
+
+pub reach-cross : (a b : Vec3) → reach (cross a b) ≤ 2 * (reach a * reach b)
+unfolding cross
+reach-cross a b =
+    reach_within (cross a b) _
+    (abs-minor a.y b.z a.z b.y _ _ (abs_y a) (abs_z b) (abs_z a) (abs_y b))
+    (abs-minor a.z b.x a.x b.z _ _ (abs_z a) (abs_x b) (abs_x a) (abs_z b))
+    (abs-minor a.x b.y a.y b.x _ _ (abs_x a) (abs_y b) (abs_y a) (abs_x b))
+
+-- ---- what the code's products and sums are
+-- a product of two components, as a call reads them
+pub read_product : (a b : ℤ) → FitsSigned w64 a → FitsSigned w64 b → to_z w64 (of_z w64 a) *ℤ to_z w64 (of_z w64 b) ≡ a *ℤ b
+read_product a b f g = simp to_z-of_z
+
+-- the three products of a scalar product and their sums have room in the width w128
+pub record FitWide (p q r : ℤ) : Type 0 where
+  pub first : FitsSigned w128 p
+  pub second : FitsSigned w128 q
+  pub third : FitsSigned w128 r
+  pub two : FitsSigned w128 (p +ℤ q)
+  pub all : FitsSigned w128 (p +ℤ q +ℤ r)
+
+fit_wide : (m : ℕ) (p q r : ℤ) → m ≤ 2 ^ 124 → unsigned_abs p ≤ m → unsigned_abs q ≤ m → unsigned_abs r ≤ m → FitWide p q r
+fit_wide m p q r h k l n = record {
+  first = omega (arith, ints);
+  second = omega (arith, ints);
+  third = omega (arith, ints);
+  two = omega (arith, ints);
+  all = omega (arith, ints);
+}
+
+pub dot_fits : (a b : Vec3) → reach a ≤ 2 ^ 62 → reach b ≤ 2 ^ 62 → FitWide (a.x *ℤ b.x) (a.y *ℤ b.y) (a.z *ℤ b.z)
+dot_fits a b p q =
+    fit_wide (reach a * reach b) (a.x *ℤ b.x) (a.y *ℤ b.y) (a.z *ℤ b.z)
+    (mul-le-mul p q)
+    (abs-mul_le a.x b.x _ _ (abs_x a) (abs_x b))
+    (abs-mul_le a.y b.y _ _ (abs_y a) (abs_y b))
+    (abs-mul_le a.z b.z _ _ (abs_z a) (abs_z b))
+
+-- such a product, where a vector product has room
+pub product_room : (a b : ℤ) (m n : ℕ) → FitsSigned w64 a → FitsSigned w64 b → unsigned_abs a ≤ m → unsigned_abs b ≤ n → m * n ≤ 2 ^ 61 →
+    unsigned_abs (to_z w64 (of_z w64 a)) * unsigned_abs (to_z w64 (of_z w64 b)) ≤ 2 ^ 61
+product_room a b m n f g p q h = let r = mul-le-mul p q in simp to_z-of_z (omega arith)
+
+-- the difference of two products, as the code computes it
+pub record FitShort (p q : ℤ) : Type 0 where
+  pub first : FitsSigned w64 p
+  pub second : FitsSigned w64 q
+  pub difference : FitsSigned w64 (p -ℤ q)
+
+minor_fits : (a b c d : ℤ) (m n : ℕ) → m * n ≤ 2 ^ 61 → unsigned_abs a ≤ m → unsigned_abs b ≤ n → unsigned_abs c ≤ m → unsigned_abs d ≤ n → FitShort (a *ℤ b) (c *ℤ d)
+minor_fits a b c d m n h p q r s =
+    let x = abs-mul_le a b m n p q in
+    let y = abs-mul_le c d m n r s in
+    short_fits (a *ℤ b) (c *ℤ d) (m * n) h x y
+  where
+    short_fits : (p q : ℤ) (m : ℕ) → m ≤ 2 ^ 61 → unsigned_abs p ≤ m → unsigned_abs q ≤ m → FitShort p q
+    short_fits p q m h x y = record { first = omega (arith, ints); second = omega (arith, ints); difference = omega (arith, ints) }
+
+pub cross_fits_x : (a b : Vec3) → reach a * reach b ≤ 2 ^ 61 → FitShort (a.y *ℤ b.z) (a.z *ℤ b.y)
+cross_fits_x a b h = minor_fits a.y b.z a.z b.y _ _ h (abs_y a) (abs_z b) (abs_z a) (abs_y b)
+
+pub cross_fits_y : (a b : Vec3) → reach a * reach b ≤ 2 ^ 61 → FitShort (a.z *ℤ b.x) (a.x *ℤ b.z)
+cross_fits_y a b h = minor_fits a.z b.x a.x b.z _ _ h (abs_z a) (abs_x b) (abs_x a) (abs_z b)
+
+pub cross_fits_z : (a b : Vec3) → reach a * reach b ≤ 2 ^ 61 → FitShort (a.x *ℤ b.y) (a.y *ℤ b.x)
+cross_fits_z a b h = minor_fits a.x b.y a.y b.x _ _ h (abs_x a) (abs_y b) (abs_y a) (abs_x b)

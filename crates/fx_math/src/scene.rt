@@ -1,0 +1,115 @@
+ghost use Rattle.std.specs.Prelude.{◌≡◌, ◌<◌, length, slice_get};
+
+use crate::vectors::Vec3;
+use std::marker::Model;
+
+/// Where a triangle or a sphere stands in its scene. Of hits at one depth the one of the lower place counts, compared by
+/// the three numbers in order.
+#[derive(Clone, Copy, Debug, PartialEq, Eq, PartialOrd, Ord)]
+pub struct Place {
+    /// 0 for the world's own surfaces, i + 1 for element i of the world's instances.
+    pub inst: u32,
+    /// The index in its array of surfaces.
+    pub surf: u32,
+    /// The number of the triangle or sphere in its geometry.
+    pub prim: u32,
+}
+
+/// What a ray can hit, in world space.
+#[derive(Clone, Copy, Debug, PartialEq, Eq)]
+pub enum Shape {
+    /// Three vertices, within 2^28.
+    Triangle(Vec3, Vec3, Vec3),
+    /// A centre within 2^28 and a radius of 0 to 2^28.
+    Sphere(Vec3, i64),
+}
+
+/// A camera: its kind, and each number as it was committed or by default (ANARI 1.0 Specification, Camera).
+#[derive(Clone, Copy, Debug, PartialEq, Eq)]
+pub enum CameraRow {
+    Orthographic {
+        position: Vec3,
+        direction: Vec3,
+        up: Vec3,
+        aspect: i32,
+        height: i32,
+    },
+    Perspective {
+        position: Vec3,
+        direction: Vec3,
+        up: Vec3,
+        aspect: i32,
+        /// The tangent of half the field of view from bottom to top.
+        tan_half_fovy: i32,
+    },
+}
+
+/// A light in world space (ANARI 1.0 Specification, Light).
+#[derive(Clone, Copy, Debug, PartialEq, Eq)]
+pub enum LightRow {
+    /// Light that goes everywhere along `direction`, which is within 2^48.
+    Directional {
+        direction: Vec3,
+        color: [i32; 3],
+        irradiance: i32,
+    },
+    /// Light from `position`, which is within 2^28, to all sides.
+    Point {
+        position: Vec3,
+        color: [i32; 3],
+        intensity: i32,
+    },
+}
+
+/// The lights of a scene, in the order of the walk through its objects.
+#[derive(Debug, Drop)]
+pub struct LightList {
+    lights: Vec<LightRow>,
+}
+
+impl Model for LightList {
+    ghost use Rattle.std.specs.Prelude.{List};
+    ghost use Rattle.fx_math.specs.declared.scene.LightRow.{LightRow};
+
+    ghost Value = { List LightRow };
+
+    ghost view = { λ l. l.lights.items };
+}
+
+impl LightList {
+    pub fn new(lights: Vec<LightRow>) -> Self
+        ensures { result ≡ lights.items }
+    {
+        LightList { lights }
+    }
+
+    pub fn len(&self) -> u64
+        ensures { result ≡ length self.now }
+    {
+        self.lights.len() as u64
+    }
+
+    /// Light `i`, counted from 0.
+    pub fn get(&self, i: u64) -> &LightRow
+        requires { i < length self.now }
+        ensures { slice_get self.now i ≡ Some result.now }
+    {
+        &self.lights[i as usize]
+    }
+
+    /// The same lights, without the list's type.
+    pub fn into_vec(self) -> Vec<LightRow>
+        ensures { result.items ≡ self }
+    {
+        self.lights
+    }
+}
+
+/// What lights a scene, and what stands behind it: colours and radiances in 1/65536, none of them negative.
+#[derive(Debug, Drop)]
+pub struct Lighting {
+    pub lights: LightList,
+    pub background: [i32; 3],
+    pub ambient_color: [i32; 3],
+    pub ambient_radiance: i32,
+}
