@@ -9,4 +9,4 @@ mod streams;
 pub use memory::{MemorySink, MemorySource};
 pub use sink::{NotWritten, Sink};
 pub use source::{Failed, Source};
-pub use streams::write_all;
+pub use streams::{NotRead, read_up_to, write_all};
