@@ -188,6 +188,42 @@ impl Source for MemorySource {
     }
 }
 
+/// A source over bytes in memory that never fails.
+#[derive(Debug, Drop)]
+pub struct SteadySource {
+    unread: Unread,
+    ended: bool,
+}
+
+impl SteadySource {
+    /// A source that gives these bytes.
+    pub fn new(bytes: Vec<u8>) -> Self
+        ensures left { ⟦<SteadySource as Source>⟧.left result ≡ Some bytes.items }
+        ensures ended { ⟦<SteadySource as Source>⟧.ended result ≡ false }
+    {
+        SteadySource {
+            unread: Unread::new(bytes),
+            ended: false,
+        }
+    }
+}
+
+impl Source for SteadySource {
+    ghost left = { λ s. Some s.unread };
+
+    ghost faults = { λ _. 0 };
+
+    ghost ended = { λ s. s.ended };
+
+    fn read(&mut self, into: &mut [u8]) -> Result<usize, Failed> {
+        let count = self.unread.read(into);
+        if !into.is_empty() {
+            self.ended = count == 0;
+        }
+        Ok(count)
+    }
+}
+
 /// A sink that keeps its bytes in memory.
 #[derive(Debug, Drop)]
 pub struct MemorySink {
