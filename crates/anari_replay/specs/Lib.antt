@@ -1,0 +1,5 @@
+-- What the clauses of this crate cite.
+pub mod Words
+pub mod Input
+pub mod Faults
+pub mod Outcome

@@ -1,0 +1,109 @@
+//! Why a run ends early, with the status and the line of each cause.
+ghost use Rattle.std.specs.Prelude.{◌≡◌};
+ghost use Rattle.anari_replay.specs.Input.{at_start};
+ghost use Rattle.anari_replay.specs.Faults.{read_fault, write_fault};
+ghost use Rattle.anari_replay.specs.declared.fault.Fault.TheVariants.{Memory};
+
+use replay_io::{NotRead, NotWritten};
+use std::alloc::{AllocError, AllocFailed};
+use thiserror::Error;
+
+/// Which rule a trace breaks first, and where. Places count from 0; one that does not apply is 0.
+#[derive(Clone, Copy, Debug, PartialEq, Eq)]
+pub struct TraceFault {
+    /// The rule's number.
+    pub rule: u8,
+    pub phase: u32,
+    pub caller: u32,
+    /// The call of this caller, in the order of the text.
+    pub call: u32,
+}
+
+/// The rules that an input can break so far.
+#[derive(Clone, Copy, Debug, PartialEq, Eq)]
+pub enum Rule {
+    /// Rule 1: there are more than 67108864 bytes.
+    TooLong,
+    /// Rule 2: the bytes are not JSON.
+    NotJson,
+    /// Rule 11: the JSON is of a form that is not read yet.
+    NotReadYet,
+}
+
+impl Rule {
+    /// The fault of an input that breaks this rule as a whole.
+    pub fn at_start(self) -> TraceFault
+        ensures { result ≡ at_start self }
+    {
+        let rule = match self {
+            Rule::TooLong => 1,
+            Rule::NotJson => 2,
+            Rule::NotReadYet => 11,
+        };
+        TraceFault {
+            rule,
+            phase: 0,
+            caller: 0,
+            call: 0,
+        }
+    }
+}
+
+/// Why a run ended early. The text is its line on standard error.
+#[derive(Clone, Copy, Debug, PartialEq, Eq, Error)]
+pub enum Fault {
+    #[error("anari_replay: words refused")]
+    Words,
+    #[error("anari_replay: out of memory")]
+    Memory,
+    #[error("anari_replay: read fault")]
+    Read,
+    #[error("anari_replay: write fault")]
+    Write,
+    #[error(
+        "anari_replay: trace refused: rule {} at phase {} caller {} call {}",
+        .0.rule,
+        .0.phase,
+        .0.caller,
+        .0.call
+    )]
+    Trace(TraceFault),
+}
+
+impl From<AllocError> for Fault {
+    ghost from_gives = { λ _ e. e ≡ Memory };
+
+    fn from(_: AllocError) -> Self {
+        Fault::Memory
+    }
+}
+
+impl<T: Drop> From<AllocFailed<T>> for Fault {
+    ghost from_gives = { λ _ e. e ≡ Memory };
+
+    fn from(_: AllocFailed<T>) -> Self {
+        Fault::Memory
+    }
+}
+
+impl From<NotRead> for Fault {
+    ghost from_gives = { λ why e. e ≡ read_fault why };
+
+    fn from(why: NotRead) -> Self {
+        match why {
+            NotRead::Failed => Fault::Read,
+            NotRead::NoMemory => Fault::Memory,
+        }
+    }
+}
+
+impl From<NotWritten> for Fault {
+    ghost from_gives = { λ why e. e ≡ write_fault why };
+
+    fn from(why: NotWritten) -> Self {
+        match why {
+            NotWritten::Failed => Fault::Write,
+            NotWritten::NoMemory => Fault::Memory,
+        }
+    }
+}

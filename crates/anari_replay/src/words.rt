@@ -1,0 +1,33 @@
+//! The words after the program's name.
+ghost use Rattle.std.specs.Prelude.{◌≡◌, ◌↔◌, IsTrue};
+ghost use Rattle.anari_replay.specs.Words.{AreSolo};
+
+use crate::fault::Fault;
+use std::alloc::Global;
+use std::env;
+use std::io::ErrorKind;
+use std::rt::Env;
+
+/// The words that the program was started with.
+///
+/// # Errors
+/// `Words` where one is not UTF-8, and `Memory`.
+pub fn program_words<R: Env + AllocGlobal>(rt: &R) -> Result<Vec<String>, Fault> {
+    let words = match env::args(rt) {
+        Ok(words) => words,
+        Err(error) if error.kind() == ErrorKind::OutOfMemory => return Err(Fault::Memory),
+        Err(_) => return Err(Fault::Words),
+    };
+    let mut after_name = Vec::new(rt.alloc());
+    for word in words.skip(1) {
+        after_name.push(word)?;
+    }
+    Ok(after_name)
+}
+
+/// Whether the words are the one word `solo`.
+pub fn are_solo(words: &[String]) -> bool
+    ensures { IsTrue result ↔ AreSolo words.now }
+{
+    words.len() == 1 && words[0].as_str() == "solo"
+}
