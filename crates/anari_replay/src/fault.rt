@@ -60,13 +60,7 @@ pub enum Fault {
     Read,
     #[error("anari_replay: write fault")]
     Write,
-    #[error(
-        "anari_replay: trace refused: rule {} at phase {} caller {} call {}",
-        .0.rule,
-        .0.phase,
-        .0.caller,
-        .0.call
-    )]
+    #[error("anari_replay: trace refused: rule {} at phase {} caller {} call {}", .0.rule, .0.phase, .0.caller, .0.call)]
     Trace(TraceFault),
 }
 

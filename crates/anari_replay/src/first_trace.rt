@@ -42,16 +42,25 @@ pub const TRIANGLE: &str = r#"{"trace":1,"phases":[{"callers":[[
 ]]}]}"#;
 
 const COUNT: &str = "/phases/0/callers/0/0/count";
+
 const DATA: &str = "/phases/0/callers/0/0/data";
+
 const COLOR: &str = "/phases/0/callers/0/5/value";
+
 const POSITION: &str = "/phases/0/callers/0/16/value";
+
 const HEIGHT: &str = "/phases/0/callers/0/17/value";
+
 const SIZE: &str = "/phases/0/callers/0/24/value";
 
 const MOST_VERTICES: u64 = 1023;
+
 const FARTHEST: i64 = 1 << 28;
+
 const BRIGHTEST: u64 = (1 << 31) - 1;
+
 const TALLEST: u64 = 1 << 26;
+
 const MOST_PIXELS: u64 = 64;
 
 /// What is free in the trace. Lengths and colours are in units of 1/65536.
@@ -117,7 +126,9 @@ fn vertices(alloc: Global, trace: &Value) -> Result<Option<Vec<Vec3>>, AllocErro
     ensures { IfOk result (λ found. IfSome found (λ vs. All (λ v. reach v ≤ 2 ^ 28) vs.items)) }
 {
     let (Some(count), Some(data)) = (
-        trace.pointer(COUNT).and_then(|n| number(n, 0, MOST_VERTICES)),
+        trace
+            .pointer(COUNT)
+            .and_then(|n| number(n, 0, MOST_VERTICES)),
         trace.pointer(DATA).and_then(Value::as_array),
     ) else {
         return Ok(None);

@@ -11,6 +11,7 @@ const FORWARD: Vec3 = Vec3 {
     y: 0,
     z: -65536,
 };
+
 const GREATEST_DEPTH: u128 = 1 << 32;
 
 /// Where a ray hits first.
@@ -95,7 +96,12 @@ fn nearest(vertices: &[Vec3], ray: &Ray) -> Option<Hit>
     let mut best: Option<Hit> = None;
     for triangle in 0..vertices.len() / 3 {
         let first = 3 * triangle;
-        if let Some(depth) = depth(ray, vertices[first], vertices[first + 1], vertices[first + 2])
+        if let Some(depth) = depth(
+            ray,
+            vertices[first],
+            vertices[first + 1],
+            vertices[first + 2],
+        )
             && best.is_none_or(|hit| depth < hit.depth)
         {
             best = Some(Hit { depth, triangle });
@@ -137,7 +143,11 @@ fn depth_of(det: i128, p: i128, q: i128, t: i128) -> Option<u64>
         return None;
     }
     let depth = 65536 * t.unsigned_abs() / det.unsigned_abs();
-    if depth <= GREATEST_DEPTH { Some(depth as u64) } else { None }
+    if depth <= GREATEST_DEPTH {
+        Some(depth as u64)
+    } else {
+        None
+    }
 }
 
 fn moment(a: Vec3, b: Vec3) -> Vec3

@@ -15,7 +15,8 @@ only-text (first ∷ second ∷ rest) word one is = absurd (omega (arith, one))
 pub returns-then-words-eq1 : goal.returns-then-words-eq1
 returns-then-words-eq1 c =
     let text : map string_bytes c.args.words.now ≡ string_bytes c.index-words-0.result ∷ [] =
-      only-text c.args.words.now c.index-words-0.result c.if-words-eq1.true c.index-words-0.is in
-    let same : Decides c.eq.result (c.as_str.result.now ≡ codes "solo") = slice_eq-Decides Decides-eqb _ _ _ c.eq.ensures in
-    ( (λ yes. text ∙ ap (λ s. s ∷ []) (sym c.as_str.ensures.value ∙ same.0 yes))
-    , (λ solo. same.1 (c.as_str.ensures.value ∙ ap (λ l. get_or l 0 []) (sym text ∙ solo))) )
+    only-text c.args.words.now c.index-words-0.result c.if-words-eq1.true c.index-words-0.is in
+    let same : Decides c.eq.result (c.as_str.result.now ≡ codes "solo") = slice_eq-Decides Decides-eqb _ _ _ c.eq.ensures in (
+      (λ yes. text ∙ ap (λ s. s ∷ []) (sym c.as_str.ensures.value ∙ same.0 yes)),
+      (λ solo. same.1 (c.as_str.ensures.value ∙ ap (λ l. get_or l 0 []) (sym text ∙ solo))),
+    )
