@@ -84,10 +84,12 @@ impl<W: Write> Sink for HostSink<W> {
 
     fn write(&mut self, piece: &[u8]) -> Result<usize, NotWritten>
         ensures bound { WritesAtMost result piece.now }
-        ensures bytes { WriteAppends (W.contents self.old.writer) (W.contents self.new.writer) result piece.now }
+        ensures bytes { WriteAppends (⟦<HostSink<W> as Sink>⟧.written self.old) (⟦<HostSink<W> as Sink>⟧.written self.new) result
+            piece.now }
         ensures progress { IfOk result (λ n. 0 < length piece.now → 0 < n) }
-        ensures later { self.old.faults ≤ self.new.faults }
-        ensures failed { IsErrOf result NotWritten.Failed → Rose self.old.faults self.new.faults }
+        ensures later { ⟦<HostSink<W> as Sink>⟧.faults self.old ≤ ⟦<HostSink<W> as Sink>⟧.faults self.new }
+        ensures failed { IsErrOf result NotWritten.Failed
+            → Rose (⟦<HostSink<W> as Sink>⟧.faults self.old) (⟦<HostSink<W> as Sink>⟧.faults self.new) }
 
         // It takes no memory of its own.
         ensures memory { IsErrOf result NotWritten.NoMemory → ⊥ }

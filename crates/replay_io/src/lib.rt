@@ -12,3 +12,6 @@ pub use memory::{MemorySink, MemorySource, SteadySource};
 pub use sink::{NotWritten, Sink};
 pub use source::{Failed, Source};
 pub use streams::{NotRead, read_up_to, write_all};
+
+#[cfg(test)]
+mod tests;
