@@ -1,5 +1,5 @@
 //! The loops over sources and sinks.
-ghost use Rattle.std.specs.Prelude.{◌≡◌, ℕ, ◌<◌, ◌≤◌, ◌+◌, ◌-◌, ◌++◌, true, length, take, drop, vec_len, IfOk, IfSome, OnOk, OnErr, IsErrOf};
+ghost use Rattle.std.specs.Prelude.{◌≡◌, ◌<◌, ◌≤◌, ◌-◌, ◌++◌, true, length, take, vec_len, IfOk, IfSome, OnOk, OnErr, IsErrOf};
 ghost use Rattle.std.specs.Io.KnownBytes.{Appends, Consumes, IsAtEnd};
 ghost use Rattle.replay_io.specs.declared.streams.NotRead.TheVariants.{Failed as read-failed, NoMemory as read-no-memory};
 ghost use Rattle.replay_io.specs.Faults.{Rose};
@@ -36,7 +36,8 @@ impl From<AllocError> for NotRead {
     }
 }
 
-/// Reads until the end of the input, or until it has `most` bytes.
+/// Reads until the end of the input, or until it has `most` bytes. Fewer than `most` bytes are
+/// thus all that was left, and the source has met its end. Each read takes a byte, or ends.
 ///
 /// # Errors
 /// `Failed` where the source counted a fault in this call, and `NoMemory` where there was no
