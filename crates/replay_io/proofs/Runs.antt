@@ -39,5 +39,6 @@ pub EndsExactly-from_read : (E : Type 0) (a b : Option (List ℕ)) (n : ℕ) (bu
 EndsExactly-from_read E None b n buf room within kept consumed end = tt
 EndsExactly-from_read E (Some xs) None n buf room within kept consumed end = absurd consumed
 EndsExactly-from_read E (Some xs) (Some ys) n buf room within kept consumed end = λ has_room. (
-    λ zero. grind (arith, consumed, zero, end zero (omega (arith, kept, has_room))),
-    λ none. grind (arith, ap length consumed, none, within, length-append, length-take))
+  λ zero. grind (arith, consumed, zero, end zero (omega (arith, kept, has_room))),
+  λ none. grind (arith, ap length consumed, none, within, length-append, length-take),
+)

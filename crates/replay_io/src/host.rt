@@ -1,5 +1,5 @@
 //! A source and a sink over the readers and writers of `std`.
-ghost use Rattle.std.specs.Prelude.{◌≡◌, ◌==◌, ℕ, ◌<◌, ◌≤◌, false, length, IfOk, IsErrOf, OnErr};
+ghost use Rattle.std.specs.Prelude.{◌≡◌, ◌==◌, ◌<◌, ◌≤◌, false, length, IfOk, IsErrOf};
 ghost use Rattle.std.specs.Io.{WritesAtMost};
 ghost use Rattle.std.specs.Io.KnownBytes.{WriteAppends};
 ghost use Rattle.replay_io.specs.Faults.{Rose};
@@ -84,10 +84,12 @@ impl<W: Write> Sink for HostSink<W> {
 
     fn write(&mut self, piece: &[u8]) -> Result<usize, NotWritten>
         ensures bound { WritesAtMost result piece.now }
-        ensures bytes { WriteAppends (W.contents self.old.writer) (W.contents self.new.writer) result piece.now }
+        ensures bytes { WriteAppends (⟦<HostSink<W> as Sink>⟧.written self.old) (⟦<HostSink<W> as Sink>⟧.written self.new) result
+            piece.now }
         ensures progress { IfOk result (λ n. 0 < length piece.now → 0 < n) }
-        ensures later { self.old.faults ≤ self.new.faults }
-        ensures failed { IsErrOf result NotWritten.Failed → Rose self.old.faults self.new.faults }
+        ensures later { ⟦<HostSink<W> as Sink>⟧.faults self.old ≤ ⟦<HostSink<W> as Sink>⟧.faults self.new }
+        ensures failed { IsErrOf result NotWritten.Failed
+            → Rose (⟦<HostSink<W> as Sink>⟧.faults self.old) (⟦<HostSink<W> as Sink>⟧.faults self.new) }
 
         // It takes no memory of its own.
         ensures memory { IsErrOf result NotWritten.NoMemory → ⊥ }

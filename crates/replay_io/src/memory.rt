@@ -1,5 +1,5 @@
 //! A source and a sink in memory, whose calls fail where they are told to.
-ghost use Rattle.std.specs.Prelude.{◌≡◌, ◌==◌, ◌↔◌, if◌then◌else◌, IsTrue, ℕ, ◌<◌, ◌≤◌, ◌+◌, ◌-◌, ◌++◌, List, [], Some, None, Ok, true, false, length, take, drop, min, vec_len, is_err, IfOk, OnErr, OnOk, IsErrOf, MatchBool};
+ghost use Rattle.std.specs.Prelude.{◌≡◌, ◌==◌, ◌↔◌, if◌then◌else◌, ℕ, ◌<◌, ◌≤◌, ◌++◌, List, [], Some, false, length, take, drop, min, vec_len, is_err, IfOk, OnErr, IsErrOf, MatchBool};
 ghost use Rattle.std.specs.Io.{ReadsAtMost, WritesAtMost};
 ghost use Rattle.std.specs.Io.KnownBytes.{ReadConsumes, WriteAppends};
 ghost use Rattle.replay_io.specs.Faults.{Rose, next_count};
@@ -99,7 +99,10 @@ impl Calls {
     }
 }
 
-/// A source over bytes in memory.
+/// A source over bytes in memory, of whose reads the listed ones fail.
+///
+/// Each other read gives as many bytes as are left and have room. The number of a call is a
+/// `u64`; calls after the last number have that number too.
 #[derive(Debug, Drop)]
 pub struct MemorySource {
     unread: Unread,
@@ -188,7 +191,7 @@ impl Source for MemorySource {
     }
 }
 
-/// A source over bytes in memory that never fails.
+/// A source over bytes in memory that never fails: its count of faults is 0 for good.
 #[derive(Debug, Drop)]
 pub struct SteadySource {
     unread: Unread,
@@ -224,7 +227,10 @@ impl Source for SteadySource {
     }
 }
 
-/// A sink that keeps its bytes in memory.
+/// A sink that keeps its bytes in memory, of whose writes the listed ones fail.
+///
+/// Each other write takes its whole piece, or finds no memory for it. The number of a call is
+/// a `u64`; calls after the last number have that number too.
 #[derive(Debug, Drop)]
 pub struct MemorySink {
     bytes: Vec<u8>,
@@ -280,7 +286,8 @@ impl Sink for MemorySink {
 
     fn write(&mut self, piece: &[u8]) -> Result<usize, NotWritten>
         ensures bound { WritesAtMost result piece.now }
-        ensures bytes { WriteAppends (Some self.old.written) (Some self.new.written) result piece.now }
+        ensures bytes { WriteAppends (Some self.old.written) (Some self.new.written) result
+            piece.now }
         ensures progress { IfOk result (λ n. 0 < length piece.now → 0 < n) }
         ensures later { self.old.faults ≤ self.new.faults }
         ensures failed { IsErrOf result NotWritten.Failed → Rose self.old.faults self.new.faults }

@@ -35,12 +35,12 @@ pub trait Sink {
     /// How many faults there were.
     ghost faults: { Self → ℕ };
 
-    /// Takes the first bytes of `piece` and answers how many, at least one of a piece that
-    /// is not empty.
+    /// Takes the first bytes of `piece` to its end, and answers how many: at least one of a
+    /// piece that is not empty.
     ///
     /// # Errors
     /// `Failed` where the sink counted a fault in this call, and `NoMemory` where it found no
-    /// memory; it then took nothing.
+    /// memory. It then took nothing.
     fn write(&mut self, piece: &[u8]) -> Result<usize, NotWritten>
         ensures bound { WritesAtMost result piece.now }
         ensures bytes { WriteAppends (written self.old) (written self.new) result piece.now }

@@ -23,11 +23,12 @@ pub trait Source {
     /// Whether the last read that had room, and did not fail, met the end of the input.
     ghost ended: { Self → Bool };
 
-    /// Puts the next bytes at the front of `into` and answers how many there are. Into a
-    /// buffer that is not empty it answers 0 exactly where nothing is left: the end of input.
+    /// Takes the first bytes of what is left to the front of `into`, and answers how many. What
+    /// stands behind them in `into` means nothing. Into a buffer that is not empty it answers
+    /// 0 exactly where nothing is left: the end of the input.
     ///
     /// # Errors
-    /// `Failed` where the source counted a fault in this call; it then took nothing.
+    /// `Failed` where the source counted a fault in this call. It then took nothing.
     fn read(&mut self, into: &mut [u8]) -> Result<usize, Failed>
         ensures bound { ReadsAtMost result into.new }
         ensures bytes { ReadConsumes (left self.old) (left self.new) result into.new }

@@ -1,5 +1,5 @@
 //! The loops over sources and sinks.
-ghost use Rattle.std.specs.Prelude.{◌≡◌, ℕ, ◌<◌, ◌≤◌, ◌+◌, ◌-◌, ◌++◌, true, length, take, drop, vec_len, IfOk, IfSome, OnOk, OnErr, IsErrOf};
+ghost use Rattle.std.specs.Prelude.{◌≡◌, ◌<◌, ◌≤◌, ◌-◌, ◌++◌, true, length, take, vec_len, IfOk, IfSome, OnOk, OnErr, IsErrOf};
 ghost use Rattle.std.specs.Io.KnownBytes.{Appends, Consumes, IsAtEnd};
 ghost use Rattle.replay_io.specs.declared.streams.NotRead.TheVariants.{Failed as read-failed, NoMemory as read-no-memory};
 ghost use Rattle.replay_io.specs.Faults.{Rose};
@@ -36,14 +36,17 @@ impl From<AllocError> for NotRead {
     }
 }
 
-/// Reads until the end of the input, or until it has `most` bytes.
+/// Reads until the end of the input, or until it has `most` bytes. Fewer than `most` bytes are
+/// thus all that was left, and the source has met its end. Each read takes a byte, or ends.
 ///
 /// # Errors
 /// `Failed` where the source counted a fault in this call, and `NoMemory` where there was no
 /// memory for its bytes. The source then lost some bytes, `most` of them at most.
 pub fn read_up_to<S: Source>(alloc: Global, source: &mut S, most: usize) -> Result<Vec<u8>, NotRead>
-    ensures first { IfOk result (λ bytes. IfSome (S.left source.old) (λ left. bytes.items ≡ take most left)) }
-    ensures consumed { IfOk result (λ bytes. Consumes (S.left source.old) (S.left source.new) bytes.items) }
+    ensures first { IfOk result (λ bytes.
+        IfSome (S.left source.old) (λ left. bytes.items ≡ take most left)) }
+    ensures consumed { IfOk result (λ bytes.
+        Consumes (S.left source.old) (S.left source.new) bytes.items) }
     ensures within { IfOk result (λ bytes. vec_len bytes ≤ most) }
     ensures ended { IfOk result (λ bytes. vec_len bytes < most → S.ended source.new ≡ true) }
     ensures whole { IfOk result (λ bytes. vec_len bytes < most → IsAtEnd (S.left source.new)) }
@@ -78,11 +81,13 @@ fn read_piece<S: Source>(
 ) -> Result<usize, NotRead>
     requires { 0 < length piece.old }
     ensures bytes { IfOk result (λ n. bytes.new.items ≡ bytes.old.items ++ take n piece.new) }
-    ensures consumed { IfOk result (λ n. Consumes (S.left source.old) (S.left source.new) (take n piece.new)) }
+    ensures consumed { IfOk result (λ n.
+        Consumes (S.left source.old) (S.left source.new) (take n piece.new)) }
     ensures within { IfOk result (λ n. n ≤ length piece.new) }
     ensures ended { IfOk result (λ n. n ≡ 0 → S.ended source.new ≡ true) }
     ensures whole { IfOk result (λ n. n ≡ 0 → IsAtEnd (S.left source.new)) }
-    ensures lost { OnErr result (ConsumesUpTo (length piece.new) (S.left source.old) (S.left source.new)) }
+    ensures lost { OnErr result
+        (ConsumesUpTo (length piece.new) (S.left source.old) (S.left source.new)) }
     ensures later { S.faults source.old ≤ S.faults source.new }
     ensures failed { IsErrOf result NotRead.Failed
         → Rose (S.faults source.old) (S.faults source.new) }
@@ -99,7 +104,8 @@ fn read_piece<S: Source>(
 /// memory. The sink then grew by some of the first of `bytes`.
 pub fn write_all<K: Sink>(sink: &mut K, bytes: &[u8]) -> Result<(), NotWritten>
     ensures all { OnOk result (Appends (K.written sink.old) (K.written sink.new) bytes.now) }
-    ensures some { OnErr result (AppendsPrefix (K.written sink.old) (K.written sink.new) bytes.now) }
+    ensures some { OnErr result
+        (AppendsPrefix (K.written sink.old) (K.written sink.new) bytes.now) }
     ensures later { K.faults sink.old ≤ K.faults sink.new }
     ensures failed { IsErrOf result NotWritten.Failed
         → Rose (K.faults sink.old) (K.faults sink.new) }
