@@ -1,2 +1,3 @@
--- Lemmas and invariants of the loops.
+-- Lemmas and invariants of the loops, and the laws that crates above cite.
+pub mod FaultLaws
 pub mod Runs

@@ -169,6 +169,7 @@ impl Source for MemorySource {
         ensures end { EndsExactly (Some self.old.left) result (length into.old) }
         ensures ended { IfOk result (λ n. 0 < length into.old → self.new.ended ≡ (n == 0)) }
         ensures kept { OnErr result (self.new.ended ≡ self.old.ended) }
+        ensures no_room { length into.old ≡ 0 → self.new.ended ≡ self.old.ended }
         ensures later { self.old.faults ≤ self.new.faults }
         ensures failed { OnErr result (Rose self.old.faults self.new.faults) }
 

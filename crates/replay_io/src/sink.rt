@@ -26,8 +26,8 @@ impl From<AllocError> for NotWritten {
 
 /// A stream of bytes that grows at its end.
 ///
-/// A sink counts its faults. The count is a `u64` that never falls; one that stands at its
-/// last value counts as having risen.
+/// A sink counts its faults. The count never falls. It may stand still at the last number of
+/// a `u64`, so one that stands there counts as having risen.
 pub trait Sink {
     /// The bytes that were written, where the sink tells them.
     ghost written: { Self → Option (List ℕ) };

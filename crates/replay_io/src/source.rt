@@ -11,8 +11,8 @@ pub struct Failed;
 
 /// A stream of bytes that is read to its end.
 ///
-/// A source counts its faults. The count is a `u64` that never falls; one that stands at its
-/// last value counts as having risen.
+/// A source counts its faults. The count never falls. It may stand still at the last number of
+/// a `u64`, so one that stands there counts as having risen.
 pub trait Source {
     /// The bytes that reads will give from here on, where the source tells them.
     ghost left: { Self → Option (List ℕ) };
@@ -35,6 +35,7 @@ pub trait Source {
         ensures end { EndsExactly (left self.old) result (length into.old) }
         ensures ended { IfOk result (λ n. 0 < length into.old → ended self.new ≡ (n == 0)) }
         ensures kept { OnErr result (ended self.new ≡ ended self.old) }
+        ensures no_room { length into.old ≡ 0 → ended self.new ≡ ended self.old }
         ensures later { faults self.old ≤ faults self.new }
         ensures failed { OnErr result (Rose (faults self.old) (faults self.new)) };
 }
