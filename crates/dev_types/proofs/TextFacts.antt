@@ -1,5 +1,5 @@
 -- Names and texts are UTF-8.
-use Rattle.std.proofs.Common.{ℕ, zero, suc, List, [], ◌∷◌, ◌≡◌, ◌≤◌, ◌<◌, length, IsTrue, Bool, true, ◌&&◌, nat_le, arith, IsUtf8}
+use Rattle.std.proofs.Common.{ℕ, zero, suc, List, [], ◌∷◌, ◌≡◌, ◌≤◌, ◌<◌, length, IsTrue, Bool, true, false, refl, ◌&&◌, nat_le, arith, IsUtf8}
 use Rattle.std.specs.List.{list_all}
 use Rattle.std.specs.Str.{is_utf8, IsAscii}
 use Rattle.std.proofs.lemmas.Bool.{leb-true}
@@ -40,3 +40,11 @@ name_is_utf8 bs h = IsUtf8-from_ascii bs (name_is_ascii bs (both _ _ h).1)
 -- a name has at most 64 bytes
 pub name_fits : (bs : List ℕ) → is_name bs ≡ true → length bs ≤ 64
 name_fits bs h = leb-true (length bs) 64 (both _ _ (both _ _ h).0).1
+
+-- bytes that are not UTF-8 are no text
+pub not_text : (bs : List ℕ) → ¬ IsUtf8 bs → is_text bs ≡ false
+not_text bs broken = decide (is_text bs) refl
+  where
+    decide : (b : Bool) → is_text bs ≡ b → is_text bs ≡ false
+    decide false is = is
+    decide true is = absurd (broken (text_is_utf8 bs is))

@@ -10,6 +10,8 @@ pub mod data_types;
 pub mod handles;
 pub mod notices;
 pub mod refusals;
+#[cfg(test)]
+mod tests;
 pub mod texts;
 pub mod values;
 
@@ -20,4 +22,4 @@ pub use handles::{Channel, Handle, NoMemory, Origin};
 pub use notices::{Client, Notice};
 pub use refusals::{Code, Refused, Severity, Status, code_of, severity_of};
 pub use texts::{Name, Text};
-pub use values::Value;
+pub use values::{Value, decode_value, encode_value, read_value, write_value};
