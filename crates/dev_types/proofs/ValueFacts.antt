@@ -1,5 +1,5 @@
 -- Lists of numbers and their bytes, four a number.
-use Rattle.std.proofs.Common.{ℕ, ℤ, pos, zero, suc, ◌*◌, ◌+◌, ◌-◌, ◌^◌, ◌<◌, ◌≤◌, ◌≡◌, ◌∙◌, ap, sym, refl, subst, List, [], ◌∷◌, ◌++◌, length, take, drop, map, get_or, arith, length-append, length-drop, length-take, append-nil, append_assoc, lit<}
+use Rattle.std.proofs.Common.{ℕ, ℤ, pos, zero, suc, ◌*◌, ◌+◌, ◌^◌, ◌<◌, ◌≤◌, ◌≡◌, ◌∙◌, ap, sym, refl, List, [], ◌∷◌, ◌++◌, length, take, drop, map, get_or, arith, length-append, length-drop, length-take, append-nil, append_assoc, lit<}
 use Rattle.std.proofs.Math.ListN.{set}
 use Rattle.std.proofs.Math.Seq.{take-append_seam, drop-append_seam, take-length, take-add}
 use Rattle.std.proofs.lemmas.Bool.{cases_lt}

@@ -5,51 +5,65 @@ ghost use Rattle.std.specs.Vec.{vec_capacity};
 
 use super::*;
 use std::alloc::Global;
+use std::process::Abort;
 use std::test::Fail;
 use std::thread;
 
+/// The value has these bytes, and they have this value.
+fn expect_bytes(rt: &impl Abort, alloc: Global, value: &Value, bytes: &[u8]) -> Result<(), Fail> {
+    let encoded = encode_value(alloc, value).map_err(|_| "out of memory")?;
+    assert!(rt; encoded.as_slice() == bytes, "of {value:?}");
+    let decoded = decode_value(value.data_type(), bytes).ok_or("no value")?;
+    assert!(rt; decoded == *value, "of {value:?}");
+    Ok(())
+}
+
 #[test]
-fn values_have_the_bytes_of_the_table(rt: HostRuntime) -> Result<(), Fail> {
-    let type_name = Value::TypeName(DataType::Ufixed8Vec4);
-    let text = Value::Str(Text::new("a\u{e9}").ok_or("a text")?);
-    let rows: [(Value, &[u8]); 9] = [
-        (Value::Scalar(131072), &[0, 0, 2, 0]),
-        (Value::Int32(-1), &[0xff, 0xff, 0xff, 0xff]),
-        (Value::Uint32Vec2([4, 258]), &[4, 0, 0, 0, 2, 1, 0, 0]),
-        (Value::Uint64(1), &[1, 0, 0, 0, 0, 0, 0, 0]),
-        (
-            Value::ScalarVec3([-131072, 131072, 0]),
-            &[0, 0, 0xfe, 0xff, 0, 0, 2, 0, 0, 0, 0, 0],
-        ),
-        (Value::Ufixed8Vec4([255, 128, 0, 1]), &[255, 128, 0, 1]),
-        (type_name, &[0x0b, 0, 0, 0]),
-        (text, &[0x61, 0xc3, 0xa9]),
-        (
-            Value::Object(DataType::Array1D, Handle(1)),
-            &[1, 0, 0, 0, 0, 0, 0, 0],
-        ),
+fn numbers_have_the_bytes_of_the_table(rt: HostRuntime) -> Result<(), Fail> {
+    let rows: [(i32, [u8; 4]); 4] = [
+        (131072, [0, 0, 2, 0]),
+        (-131072, [0, 0, 0xfe, 0xff]),
+        (-1, [0xff; 4]),
+        (258, [2, 1, 0, 0]),
     ];
-    for (value, bytes) in &rows {
-        let encoded = encode_value(rt.alloc(), value).map_err(|_| "out of memory")?;
-        assert_eq!(rt; encoded.as_slice(), *bytes, "of {value:?}");
-        let decoded = decode_value(value.data_type(), bytes).ok_or("no value")?;
-        assert!(rt; decoded == *value, "of {value:?}");
+    for (number, bytes) in rows {
+        expect_bytes(&rt, rt.alloc(), &Value::Scalar(number), &bytes)?;
+        expect_bytes(&rt, rt.alloc(), &Value::Int32(number), &bytes)?;
     }
     Ok(())
 }
 
 #[test]
+fn other_values_have_the_bytes_of_the_table(rt: HostRuntime) -> Result<(), Fail> {
+    let alloc = rt.alloc();
+    let lower = Value::ScalarVec3([-131072, 131072, 0]);
+    let lower_bytes = [0, 0, 0xfe, 0xff, 0, 0, 2, 0, 0, 0, 0, 0];
+    expect_bytes(&rt, alloc, &lower, &lower_bytes)?;
+    let size = Value::Uint32Vec2([4, 258]);
+    expect_bytes(&rt, alloc, &size, &[4, 0, 0, 0, 2, 1, 0, 0])?;
+    let pixel = Value::Ufixed8Vec4([255, 128, 0, 1]);
+    expect_bytes(&rt, alloc, &pixel, &[255, 128, 0, 1])?;
+    let type_name = Value::TypeName(DataType::Ufixed8Vec4);
+    expect_bytes(&rt, alloc, &type_name, &[0x0b, 0, 0, 0])?;
+    let text = Value::Str(Text::new("a\u{e9}").ok_or("a text")?);
+    expect_bytes(&rt, alloc, &text, &[0x61, 0xc3, 0xa9])?;
+    let array = Value::Object(DataType::Array1D, Handle(1));
+    expect_bytes(&rt, alloc, &array, &[1, 0, 0, 0, 0, 0, 0, 0])
+}
+
+#[test]
 fn other_bytes_are_no_value(rt: HostRuntime) {
+    let long = [0x61; 257];
     let rows: [(DataType, &[u8]); 6] = [
         (DataType::Scalar, &[0, 0, 2]),
         (DataType::Str, &[0xff]),
-        (DataType::Str, &[0x61; 257]),
+        (DataType::Str, &long),
         (DataType::TypeName, &[0x19, 0, 0, 0]),
         (DataType::TypeName, &[0, 0, 0, 0]),
         (DataType::World, &[1, 0, 0, 0]),
     ];
-    for (ty, bytes) in &rows {
-        assert!(rt; decode_value(*ty, bytes).is_none(), "of {ty:?}");
+    for (ty, bytes) in rows {
+        assert!(rt; decode_value(ty, bytes).is_none(), "of {ty:?}");
     }
 }
 
@@ -66,63 +80,50 @@ fn an_object_of_no_object_type_has_the_bytes_of_its_handle(rt: HostRuntime) -> R
 fn names_and_texts_have_their_limits(rt: HostRuntime) {
     let sixty_four = "abcdefghijklmnopqrstuvwxyzabcdefghijklmnopqrstuvwxyzabcdefghijkl";
     let sixty_five = "abcdefghijklmnopqrstuvwxyzabcdefghijklmnopqrstuvwxyzabcdefghijklm";
-    let rows = [
-        ("channel.color", true),
-        ("!~", true),
-        (sixty_four, true),
-        (sixty_five, false),
-        ("", false),
-        ("a b", false),
-        ("a\u{7f}", false),
-        ("\u{e9}", false),
-    ];
-    for (text, is_name) in rows {
+    for text in ["channel.color", "!~", sixty_four] {
         let name = Name::new(text);
-        assert_eq!(rt; name.is_some(), is_name, "of {text}");
-        if let Some(name) = name {
-            assert!(rt; name.as_str() == text);
-        }
+        assert!(rt; name.is_some_and(|name| name.as_str() == text), "of {text}");
+    }
+    for text in [sixty_five, "", "a b", "a\u{7f}", "\u{e9}"] {
+        assert!(rt; Name::new(text).is_none(), "of {text}");
     }
     assert!(rt; Text::new("").is_some());
+}
+
+/// The refusal of a call on object 9 has this number and gives this code.
+fn expect_status(rt: &impl Abort, refused: &Refused, number: u8, code: Code) -> Result<(), Fail> {
+    let status = refused.status(Handle(9)).ok_or("no status")?;
+    assert!(rt; refused.copied() == *refused);
+    assert!(rt;
+        refused.number() == number && status.refusal == number,
+        "of {refused:?}"
+    );
+    assert!(rt;
+        status.code == code && status.severity == Severity::Error,
+        "of {refused:?}"
+    );
+    assert!(rt; status.source == Handle(9));
+    Ok(())
 }
 
 #[test]
 fn each_refusal_is_told_by_its_number(rt: HostRuntime) -> Result<(), Fail> {
     let name = Name::new("size").ok_or("a name")?;
-    let rows = [
-        (Refused::JournalFull(4), 1, None),
-        (
-            Refused::BadHandle(Handle(3)),
-            2,
-            Some(Code::InvalidArgument),
-        ),
-        (Refused::NotHeld(Handle(3)), 3, Some(Code::InvalidOperation)),
-        (Refused::BadShape, 8, Some(Code::InvalidArgument)),
-        (
-            Refused::InFlight { given: 0, of: 1 },
-            11,
-            Some(Code::InvalidOperation),
-        ),
-        (Refused::TooMany(256), 16, Some(Code::InvalidOperation)),
-        (
-            Refused::OutOfRange(Handle(9), name),
-            17,
-            Some(Code::InvalidArgument),
-        ),
-        (Refused::NoMemory, 19, None),
-    ];
-    for (refused, number, code) in &rows {
-        let status = refused.status(Handle(9));
-        assert_eq!(rt; refused.number(), *number);
-        assert_eq!(rt; status.is_some(), code.is_some(), "of {number}");
-        if let Some(status) = status {
-            assert_eq!(rt; Some(status.code), *code, "of {number}");
-            assert_eq!(rt; status.severity, Severity::Error);
-            assert_eq!(rt; status.source, Handle(9));
-            assert_eq!(rt; status.refusal, *number);
-        }
-        assert!(rt; refused.copied() == *refused);
-    }
+    let in_flight = Refused::InFlight { given: 0, of: 1 };
+    expect_status(
+        &rt,
+        &Refused::BadHandle(Handle(3)),
+        2,
+        Code::InvalidArgument,
+    )?;
+    expect_status(&rt, &Refused::NotHeld(Handle(3)), 3, Code::InvalidOperation)?;
+    expect_status(&rt, &Refused::BadShape, 8, Code::InvalidArgument)?;
+    expect_status(&rt, &in_flight, 11, Code::InvalidOperation)?;
+    expect_status(&rt, &Refused::TooMany(256), 16, Code::InvalidOperation)?;
+    let out_of_range = Refused::OutOfRange(Handle(9), name);
+    expect_status(&rt, &out_of_range, 17, Code::InvalidArgument)?;
+    assert!(rt; Refused::JournalFull(4).status(Handle(9)).is_none());
+    assert!(rt; Refused::NoMemory.status(Handle(9)).is_none());
     Ok(())
 }
 

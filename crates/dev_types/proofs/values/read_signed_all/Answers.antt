@@ -1,4 +1,4 @@
-use Rattle.std.proofs.Common.{rules, ℕ, ◌≡◌, ◌+◌, ◌-◌, ◌*◌, take, drop, ◌∙◌, ap, arith, length, ◌<◌, length-set, FitsSigned, w32, to_z, of_z}
+use Rattle.std.proofs.Common.{rules, ℕ, ◌≡◌, ◌+◌, ◌-◌, ◌*◌, take, drop, ◌∙◌, ap, arith, length, ◌<◌, length-set, FitsSigned, w32}
 use Rattle.std.proofs.lemmas.Int.{to_z-of_z}
 use Rattle.dev_types.specs.ValueBytes.{signed_bytes, signed_number}
 use Rattle.dev_types.proofs.ValueFacts.{read_step, same_step, read_done}

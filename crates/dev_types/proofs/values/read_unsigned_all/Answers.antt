@@ -1,4 +1,4 @@
-use Rattle.std.proofs.Common.{rules, ℕ, ◌≡◌, ◌+◌, ◌-◌, ◌*◌, take, drop, ◌∙◌, ap, arith, length, ◌<◌, length-set}
+use Rattle.std.proofs.Common.{ℕ, ◌≡◌, ◌+◌, ◌-◌, ◌*◌, take, drop, ◌∙◌, ap, arith, length, ◌<◌, length-set}
 use Rattle.dev_types.specs.ValueBytes.{unsigned_bytes, unsigned_number}
 use Rattle.dev_types.proofs.ValueFacts.{read_step, same_step, read_done}
 use Rattle.dev_types.proofs.values.read_unsigned_all.Goals as goal

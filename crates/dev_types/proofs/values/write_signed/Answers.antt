@@ -1,6 +1,5 @@
-use Rattle.std.proofs.Common.{rules, ℕ, ◌≡◌, ◌∙◌, ap, ◌*◌, ◌+◌, ◌<◌, pos, FitsSigned, w32, get_or, arith, refl, length-append}
+use Rattle.std.proofs.Common.{rules, ◌∙◌, ap, pos, FitsSigned, w32, get_or, arith, refl}
 use Rattle.std.proofs.Common.{below_more}
-use Rattle.std.specs.Int.{cast_unsigned}
 use Rattle.std.proofs.lemmas.Int.{to_z-of_z}
 use Rattle.dev_types.specs.ValueBytes.{signed_bytes}
 use Rattle.dev_types.proofs.ValueFacts.{write_step, signed_back, length_signed}
