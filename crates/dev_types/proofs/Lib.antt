@@ -1,0 +1,3 @@
+pub mod TextFacts
+pub mod TypeFacts
+pub mod ValueFacts

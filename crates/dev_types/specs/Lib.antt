@@ -1,0 +1,4 @@
+pub mod Bounded
+pub mod DataTypes
+pub mod Refusals
+pub mod ValueBytes

@@ -1,0 +1,50 @@
+ghost use Rattle.std.specs.Prelude.{◌≡◌, IfOk, IfErr, length};
+
+use crate::handles::NoMemory;
+use std::alloc::Global;
+use std::marker::Model;
+use std::sync::Arc;
+
+/// A shared block of bytes that never changes. Its owners hold one and the same memory, which is given
+/// back with the last of them.
+#[derive(Drop)]
+pub struct Bytes {
+    block: Arc<Vec<u8>>,
+}
+
+impl Model for Bytes {
+    ghost use Rattle.std.specs.Prelude.{ℕ, List};
+
+    ghost Value = { List ℕ };
+
+    ghost view = { λ b. b.block.value.items };
+}
+
+impl Bytes {
+    /// A block of these bytes, which are moved and not copied. Where there is no memory for the
+    /// count of owners, the bytes come back.
+    pub fn of(alloc: Global, bytes: Vec<u8>) -> Result<Bytes, (NoMemory, Vec<u8>)>
+        ensures value { IfOk result (λ block. block ≡ bytes.items) }
+        ensures bytes_returned { IfErr result (λ refused. refused.1 ≡ bytes) }
+    {
+        match Arc::new(alloc, bytes) {
+            Ok(block) => Ok(Bytes { block }),
+            Err(failed) => Err((NoMemory, failed.value)),
+        }
+    }
+
+    pub fn as_slice(&self) -> &[u8]
+        ensures { result.now ≡ self.now }
+    {
+        self.block.as_slice()
+    }
+
+    /// One more owner of the same bytes: no byte is copied.
+    pub fn share(&self, _alloc: Global) -> Result<Bytes, NoMemory>
+        ensures { IfOk result (λ block. block ≡ self.now) }
+    {
+        Ok(Bytes {
+            block: Arc::try_clone(&self.block)?,
+        })
+    }
+}
