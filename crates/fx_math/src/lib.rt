@@ -1,8 +1,10 @@
 //! Exact arithmetic on whole numbers for the picture, in units of 1/65536: vectors, and the plain records of a scene.
 #![tactic(auto)]
 
+mod roots;
 mod scene;
 mod vectors;
 
+pub use roots::isqrt;
 pub use scene::{CameraRow, LightList, LightRow, Lighting, Place, Shape};
 pub use vectors::{Ray, Vec3, cross, dot, sub};
