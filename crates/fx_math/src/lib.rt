@@ -7,4 +7,4 @@ mod vectors;
 
 pub use roots::isqrt;
 pub use scene::{CameraRow, LightList, LightRow, Lighting, Place, Shape};
-pub use vectors::{Ray, Vec3, cross, dot, sub};
+pub use vectors::{Ray, Vec3, add, cross, dot, neg, scaled_down, sub, times};
