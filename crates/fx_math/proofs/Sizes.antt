@@ -1,6 +1,6 @@
 -- How large sums and products of whole numbers and of vectors grow.
 use Rattle.std.proofs.Common.{◌≡◌, ℕ, suc, ◌+◌, ◌*◌, ◌/◌, ◌^◌, ◌<◌, ◌≤◌, ℤ, pos, negsuc, neg_ℤ, int_div, ◌⊎◌, inl, inr, refl, FitsSigned, w64, to_z, of_z, ◌+ℤ◌, ◌-ℤ◌, ◌*ℤ◌, unsigned_abs, arith, ap, ◌∙◌}
-use Rattle.std.proofs.lemmas.Int.{ints, unsigned_abs-mul, to_z-of_z}
+use Rattle.std.proofs.lemmas.Int.{ints, unsigned_abs-mul, to_z-of_z, to_z_pos, quot_fits}
 use mir.Syntax.{w128}
 use Rattle.std.specs.Int.{int_div_euclid}
 use Rattle.std.specs.Int.Signed.{mag, shr_z, mag_shr}
@@ -112,7 +112,7 @@ pub reach-times : (v : Vec3) (s : ℤ) → reach (times v s) ≡ reach v * unsig
 unfolding times
 reach-times v s = reach-by v (times v s) (λ n. n * unsigned_abs s) (λ m n h. mul-le-mul_right (unsigned_abs s) h) (unsigned_abs-mul v.x s) (unsigned_abs-mul v.y s) (unsigned_abs-mul v.z s)
 
-abs-int_div : (a : ℤ) (d : ℕ) → unsigned_abs (int_div a (pos d)) ≡ unsigned_abs a / d
+pub abs-int_div : (a : ℤ) (d : ℕ) → unsigned_abs (int_div a (pos d)) ≡ unsigned_abs a / d
 abs-int_div (pos a) d = refl
 abs-int_div (negsuc a) d = abs-neg (pos (suc a / d))
 
@@ -173,6 +173,20 @@ product_room a b m n f g p q h = let r = mul-le-mul p q in simp to_z-of_z (omega
 -- a number that the code keeps
 pub kept : (p q : ℤ) → FitsSigned w64 p → p ≡ q → to_z w64 (of_z w64 p) ≡ q
 kept p q f e = to_z-of_z w64 p f ∙ e
+
+-- the absolute value of a number, as the code reads it
+pub read_abs : (a : ℤ) → FitsSigned w64 a → unsigned_abs (to_z w64 (of_z w64 a)) ≡ unsigned_abs a
+read_abs a f = ap unsigned_abs (to_z-of_z w64 a f)
+
+-- a quotient, as the code reads its dividend
+pub read_quotient : (a : ℤ) (d : ℕ) → FitsSigned w64 a → int_div (to_z w64 (of_z w64 a)) (pos d) ≡ int_div a (pos d)
+read_quotient a d f = ap (λ (b : ℤ). int_div b (pos d)) (to_z-of_z w64 a f)
+
+-- a quotient, as the code reads and keeps it
+pub kept_quotient : (a : ℤ) (d : ℕ) → FitsSigned w64 a → 0 < d → d < 2 ^ 63 → to_z w64 (of_z w64 (int_div (to_z w64 (of_z w64 a)) (to_z w64 d))) ≡ int_div a (pos d)
+kept_quotient a d f positive room =
+    rw (to_z-of_z w64 a f, to_z_pos w64 d room)
+    (kept (int_div a (pos d)) _ (quot_fits w64 a (pos d) f (omega (arith, ints))) refl)
 
 -- a shift by 16 bits, as the code reads and keeps it
 pub shifted : (a : ℤ) → FitsSigned w64 a → to_z w64 (of_z w64 (shr_z (to_z w64 (of_z w64 a)) 65536)) ≡ int_div_euclid a (pos 65536)
