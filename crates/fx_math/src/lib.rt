@@ -12,3 +12,6 @@ pub use roots::isqrt;
 pub use scene::{CameraRow, LightList, LightRow, Lighting, Place, Shape};
 pub use transforms::{Mat34, transform, transform_direction, transform_radius};
 pub use vectors::{Ray, Vec3, add, cross, dot, neg, reach, scaled_down, sub, times};
+
+#[cfg(test)]
+mod tests;

@@ -14,6 +14,13 @@ pub struct Mat34 {
     pub c: [i32; 12],
 }
 
+impl Mat34 {
+    /// What takes everything to itself.
+    pub const IDENTITY: Self = Mat34 {
+        c: [65536, 0, 0, 0, 65536, 0, 0, 0, 65536, 0, 0, 0],
+    };
+}
+
 /// Where a point goes, each component rounded down before the origin is added, or None where a component leaves
 /// -2^28 to 2^28. Components are within 2^31.
 pub fn transform(m: &Mat34, v: Vec3) -> Option<Vec3>
