@@ -1,8 +1,17 @@
 //! Exact arithmetic on whole numbers for the picture, in units of 1/65536: vectors, and the plain records of a scene.
 #![tactic(auto)]
 
+mod directions;
+mod roots;
 mod scene;
+mod transforms;
 mod vectors;
 
+pub use directions::unit;
+pub use roots::isqrt;
 pub use scene::{CameraRow, LightList, LightRow, Lighting, Place, Shape};
-pub use vectors::{Ray, Vec3, cross, dot, sub};
+pub use transforms::{Mat34, transform, transform_direction, transform_radius};
+pub use vectors::{Ray, Vec3, add, cross, dot, neg, reach, scaled_down, sub, times};
+
+#[cfg(test)]
+mod tests;
