@@ -7,15 +7,15 @@ use std::alloc::Global;
 use std::marker::Model;
 
 /// One call of a history, with its reply. No history is kept yet, so there is none.
-#[derive(Debug, Drop)]
+#[derive(Drop)]
 pub enum Entry {}
 
 /// One thing that a client is told. Nothing is told yet, so there is none.
-#[derive(Debug, Drop)]
+#[derive(Drop)]
 pub enum Notice {}
 
 /// The history of a run: its entries in order.
-#[derive(Debug, Drop)]
+#[derive(Drop)]
 pub struct Journal {
     entries: Vec<Entry>,
 }
@@ -30,7 +30,7 @@ impl Model for Journal {
 }
 
 /// What a client was told, in order.
-#[derive(Debug, Drop)]
+#[derive(Drop)]
 pub struct NoticeList {
     notices: Vec<Notice>,
 }
@@ -52,7 +52,7 @@ pub struct Replayed {
 }
 
 /// What a run of the program comes to.
-#[derive(Debug, Drop)]
+#[derive(Drop)]
 pub struct Outcome {
     /// 0 done, 2 words refused, 3 out of memory, 4 read fault, 5 write fault, 6 trace refused.
     pub status: u8,
