@@ -1,0 +1,131 @@
+-- The colour of a pixel: light from the lamps of the scene comes back from each surface that the ray meets (ANARI 1.0 Specification,
+-- Light and Material), and the surfaces lie over each other from front to back by their opacity. Colours have 65536 for one.
+use Rattle.std.specs.Prelude.{Option, ℕ, List, [], ◌∷◌, fold, map, min, ◌+◌, ◌-◌, ◌*◌, ◌/◌, ◌^◌, ℤ, pos, ◌+ℤ◌, ◌*ℤ◌, int_lt, int_le, unsigned_abs, Bool, ◌&&◌, ◌==◌, if◌then◌else◌, slice_index_or}
+use Rattle.std.specs.List.{filter_map, find}
+use Rattle.std.specs.Int.{int_min}
+use Rattle.std.specs.Option.{option_map}
+use Rattle.fx_math.specs.Vec3.{add, cross, dot, floored, neg, scaled, sub, unit}
+use Rattle.fx_math.specs.declared.vectors.Vec3.{Vec3}
+use Rattle.fx_math.specs.declared.vectors.Ray.{Ray}
+use Rattle.fx_math.specs.declared.scene.Place.{Place}
+use Rattle.fx_math.specs.declared.scene.Shape.{Shape}
+use Rattle.fx_math.specs.declared.scene.Shape.TheVariants.{Triangle, Sphere}
+use Rattle.fx_math.specs.declared.scene.LightRow.{LightRow}
+use Rattle.fx_math.specs.declared.scene.LightRow.TheVariants.{Directional, Point}
+use Rattle.fx_math.specs.declared.scene.Lighting.{Lighting}
+use Rattle.picture_model.specs.declared.records.Blend.{Blend}
+use Rattle.picture_model.specs.declared.records.Hit.{Hit}
+use Rattle.picture_model.specs.declared.records.HitRow.{HitRow}
+use Rattle.picture_model.specs.declared.records.Primitive.{Primitive}
+use Rattle.picture_model.specs.Floor.{◌/ℤ◌}
+use Rattle.picture_model.specs.Hits.{hits}
+
+-- component i of a colour: red, green, blue
+abbrev pub component : List ℤ → ℕ → ℤ
+component color i = slice_index_or color i (pos 0)
+
+-- the point of the ray at a depth number
+unfoldable pub point_at : Ray → ℕ → Vec3
+point_at ray s = add ray.o (floored 65536 (scaled (pos s) ray.d))
+
+-- the unit normal of a shape at one of its points, on either of its sides
+unfoldable pub normal_of : Shape → Vec3 → Vec3
+normal_of (Triangle a b c) point = unit (cross (sub b a) (sub c a))
+normal_of (Sphere centre radius) point = unit (sub point centre)
+
+-- the same normal on the side that the ray comes from
+unfoldable pub facing : Ray → Vec3 → Vec3
+facing ray normal = if int_lt (pos 0) (dot normal ray.d) then neg normal else normal
+
+-- the unit direction from a point to a light
+unfoldable pub towards : LightRow → Vec3 → Vec3
+towards (Directional direction color irradiance) point = unit (neg direction)
+towards (Point position color intensity) point = unit (sub position point)
+
+-- how strongly a light shines at a point: a point light's intensity falls with the square of the distance
+unfoldable pub irradiance_at : LightRow → Vec3 → ℤ
+irradiance_at (Directional direction color irradiance) point = irradiance
+irradiance_at (Point position color intensity) point =
+    let way = sub position point in
+    let squared = unsigned_abs (dot way way) in
+    if squared == 0 then pos 0 else int_min (pos (2 ^ 31 - 1)) (intensity *ℤ pos (2 ^ 32) /ℤ squared)
+
+-- the colour of a light
+unfoldable pub color_of : LightRow → List ℤ
+color_of (Directional direction color irradiance) = color
+color_of (Point position color intensity) = color
+
+-- the cosine of the angle between two unit directions, and 0 where they point apart
+unfoldable pub cosine : Vec3 → Vec3 → ℤ
+cosine normal direction = if int_le (dot normal direction) (pos 0) then pos 0 else dot normal direction /ℤ 65536
+
+-- component i of the light of one lamp that a surface with this normal takes in at a point
+unfoldable pub share_of : ℕ → Vec3 → Vec3 → LightRow → ℤ
+share_of i normal point light =
+    (component (color_of light) i *ℤ irradiance_at light point /ℤ 65536) *ℤ cosine normal (towards light point) /ℤ 65536
+
+-- component i of the light of all lamps
+abbrev pub shares : ℕ → Vec3 → Vec3 → List LightRow → ℤ
+shares i normal point [] = pos 0
+shares i normal point (light ∷ lights) = share_of i normal point light +ℤ shares i normal point lights
+
+-- component i of the light that is everywhere
+unfoldable pub ambient : ℕ → Lighting → ℤ
+ambient i lighting = component lighting.ambient_color i *ℤ lighting.ambient_radiance /ℤ 65536
+
+-- component i of the light that comes back from a hit
+unfoldable pub radiance : ℕ → Lighting → Ray → HitRow → ℤ
+radiance i lighting ray row =
+    let point = point_at ray row.depth in
+    let normal = facing ray (normal_of row.shape point) in
+    component row.color i *ℤ (ambient i lighting +ℤ shares i normal point lighting.lights) /ℤ 65536
+
+-- before the first hit no light is gathered, and all that lies behind still shows
+unfoldable pub unblended : Blend
+unblended = record { sum = pos 0 ∷ pos 0 ∷ pos 0 ∷ []; rest = 65536 }
+
+-- the share of what still shows that a hit takes for itself
+unfoldable pub weight : Blend → HitRow → ℕ
+weight b row = b.rest * unsigned_abs row.opacity / 65536
+
+-- the blend with one more hit behind those that it has
+unfoldable pub blend_hit : Lighting → Ray → Blend → HitRow → Blend
+blend_hit lighting ray b row =
+    let w = weight b row in
+    let blended = λ (i : ℕ). component b.sum i +ℤ radiance i lighting ray row *ℤ pos w /ℤ 65536 in
+    record { sum = blended 0 ∷ blended 1 ∷ blended 2 ∷ []; rest = b.rest - w }
+
+-- the byte of a colour component that is not negative: 255 from one on
+unfoldable pub to_byte : ℤ → ℕ
+to_byte radiance = min 255 ((unsigned_abs radiance * 255 + 32768) / 65536)
+
+-- red, green, blue and alpha, with the background behind the last hit
+unfoldable pub finish_blend : Lighting → Blend → List ℕ
+finish_blend lighting b =
+    let shown = λ (i : ℕ). to_byte (component b.sum i +ℤ component lighting.background i *ℤ pos b.rest /ℤ 65536) in
+    shown 0 ∷ shown 1 ∷ shown 2 ∷ to_byte (pos (65536 - b.rest)) ∷ []
+
+-- the same place
+unfoldable pub is_same_place : Place → Place → Bool
+is_same_place a b = a.inst == b.inst && a.surf == b.surf && a.prim == b.prim
+
+-- the primitive at a place
+abbrev pub primitive_at : List Primitive → Place → Option Primitive
+primitive_at primitives place = find (λ p. is_same_place p.place place) primitives
+
+-- what shading needs of a hit: its depth, and the primitive at its place
+abbrev pub hit_row : List Primitive → Hit → Option HitRow
+hit_row primitives h =
+    option_map (λ p. record { depth = h.depth; shape = p.shape; color = p.color; opacity = p.opacity }) (primitive_at primitives h.place)
+
+-- the places and shapes of primitives
+abbrev pub placed : List Primitive → List (Place × Shape)
+placed primitives = map (λ p. (p.place, p.shape)) primitives
+
+-- what shading needs of all hits of a ray, from front to back
+abbrev pub hit_rows : List Primitive → Ray → List HitRow
+hit_rows primitives ray = filter_map (hit_row primitives) (hits ray (placed primitives))
+
+-- the four colour bytes of what a ray shows
+unfoldable pub shade : List Primitive → Lighting → Ray → List ℕ
+shade primitives lighting ray = finish_blend lighting (fold (blend_hit lighting ray) unblended (hit_rows primitives ray))
