@@ -5,19 +5,12 @@ use Rattle.fx_math.specs.Vec3.{add, cross, dot, scaled, sub}
 use Rattle.fx_math.specs.declared.vectors.Vec3.{Vec3}
 use Rattle.fx_math.specs.declared.vectors.Ray.{Ray}
 use Rattle.fx_math.specs.declared.scene.Shape.{Shape}
+use Rattle.picture_model.specs.declared.depths.Crossing.{Crossing}
 use Rattle.fx_math.specs.declared.scene.Shape.TheVariants.{Triangle, Sphere}
 
 -- the greatest depth number
 abbrev pub farthest : ℕ
 farthest = 2 ^ 32
-
--- where a ray meets a triangle's plane, as three fractions over one denominator: t / det along the ray, p / det along the triangle's
--- first edge and q / det along its second
-pub record Crossing : Type 0 where
-  pub det : ℤ
-  pub t : ℤ
-  pub p : ℤ
-  pub q : ℤ
 
 -- the crossing of the ray with the plane of the triangle a, b, c
 unfoldable pub crossing : Ray → Vec3 → Vec3 → Vec3 → Crossing
@@ -74,7 +67,7 @@ IsDepth ray (Sphere centre radius) s = IsEnteredAt ray centre radius s
 -- the crossing lies in the triangle and not behind the ray's origin, as a test
 unfoldable pub is_crossed : Crossing → Bool
 is_crossed c =
-    int_lt (pos 0) c.det && int_le (pos 0) c.p && int_le (pos 0) c.q && int_le (c.p +ℤ c.q) c.det && int_le (pos 0) c.t
+  int_lt (pos 0) c.det && int_le (pos 0) c.t && int_le (pos 0) c.p && int_le (pos 0) c.q && int_le (c.p +ℤ c.q) c.det
 
 -- floor (65536 t), where it is not too far
 unfoldable pub crossing_depth : Crossing → Option ℕ
@@ -87,7 +80,11 @@ unfoldable pub first_from : (ℕ → Bool) → ℕ → ℕ → Option ℕ
 first_from test zero k = None
 first_from test (suc n) k = elim (test k) [ true ↦ Some k | false ↦ first_from test n (suc k) ]
 
+-- the least depth number in the ball
+unfoldable pub sphere_depth : Ray → Vec3 → ℤ → Option ℕ
+sphere_depth ray centre radius = first_from (is_in_ball ray centre radius) (farthest + 1) 0
+
 -- the depth number of the ray's hit with the shape, if it is hit
-unfoldable pub depth : Ray → Shape → Option ℕ
+abbrev pub depth : Ray → Shape → Option ℕ
 depth ray (Triangle a b c) = crossing_depth (turned (crossing ray a b c))
-depth ray (Sphere centre radius) = first_from (is_in_ball ray centre radius) (farthest + 1) 0
+depth ray (Sphere centre radius) = sphere_depth ray centre radius

@@ -42,6 +42,11 @@ all_hits ray placed = filter_map (hit_with ray) placed
 unfoldable pub nearest : Ray → List (Place × Shape) → Option Hit
 nearest ray placed = nearest_of (all_hits ray placed)
 
+-- a hit, where it stands behind the last one
+abbrev pub behind : Hit → Option Hit → Option Hit
+behind last None = None
+behind last (Some h) = if is_nearer last h then Some h else None
+
 -- the nearest of the hits behind a given one
 unfoldable pub hit_after : Ray → List (Place × Shape) → Hit → Option Hit
 hit_after ray placed last = nearest_of (filter (is_nearer last) (all_hits ray placed))

@@ -1,5 +1,5 @@
 -- What a scene keeps to, so that each number of the picture has a bound. Coordinates, directions and radii count 1/65536.
-use Rattle.std.specs.Prelude.{ℕ, ◌^◌, ◌≤◌, List, length, All, ℤ, pos, ◌≤ℤ◌}
+use Rattle.std.specs.Prelude.{ℕ, ◌^◌, ◌≤◌, List, length, All, ℤ, pos, ◌≤ℤ◌, unsigned_abs}
 use Rattle.fx_math.specs.Vec3.{reach}
 use Rattle.fx_math.specs.declared.vectors.Vec3.{Vec3}
 use Rattle.fx_math.specs.declared.vectors.Ray.{Ray}
@@ -10,6 +10,7 @@ use Rattle.fx_math.specs.declared.scene.CameraRow.TheVariants.{Orthographic, Per
 use Rattle.fx_math.specs.declared.scene.LightRow.{LightRow}
 use Rattle.fx_math.specs.declared.scene.LightRow.TheVariants.{Directional, Point}
 use Rattle.fx_math.specs.declared.scene.Lighting.{Lighting}
+use Rattle.picture_model.specs.declared.depths.Crossing.{Crossing}
 use Rattle.picture_model.specs.declared.records.Primitive.{Primitive}
 use Rattle.picture_model.specs.declared.records.Scene.{Scene}
 
@@ -90,3 +91,10 @@ pub record IsSceneWithin (scene : Scene) : Type 0 where
   pub lighting : IsLightingWithin scene.lighting
   pub width : IsSide scene.width
   pub height : IsSide scene.height
+
+-- the fractions of a triangle within the limits
+pub record IsCrossingWithin (c : Crossing) : Type 0 where
+  pub det : unsigned_abs c.det ≤ 2 ^ 96
+  pub t : unsigned_abs c.t ≤ 2 ^ 96
+  pub p : unsigned_abs c.p ≤ 2 ^ 96
+  pub q : unsigned_abs c.q ≤ 2 ^ 96
