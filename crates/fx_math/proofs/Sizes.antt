@@ -1,10 +1,13 @@
 -- How large sums and products of whole numbers and of vectors grow.
-use Rattle.std.proofs.Common.{◌≡◌, ℕ, ◌+◌, ◌*◌, ◌^◌, ◌≤◌, ℤ, FitsSigned, w64, to_z, of_z, ◌+ℤ◌, ◌-ℤ◌, ◌*ℤ◌, unsigned_abs, arith, ap, ◌∙◌}
-use Rattle.std.proofs.lemmas.Int.{ints, unsigned_abs-mul, to_z-of_z}
+use Rattle.std.proofs.Common.{◌≡◌, ℕ, suc, ◌+◌, ◌*◌, ◌/◌, ◌^◌, ◌<◌, ◌≤◌, ℤ, pos, negsuc, neg_ℤ, int_div, ◌⊎◌, inl, inr, refl, FitsSigned, w64, to_z, of_z, ◌+ℤ◌, ◌-ℤ◌, ◌*ℤ◌, unsigned_abs, arith, ap, ◌∙◌}
+use Rattle.std.proofs.lemmas.Int.{ints, unsigned_abs-mul, to_z-of_z, to_z_pos, quot_fits}
 use mir.Syntax.{w128}
-use Rattle.std.proofs.Math.Nat.{mul-le-mul}
+use Rattle.std.specs.Int.{int_div_euclid}
+use Rattle.std.specs.Int.Signed.{mag, shr_z, mag_shr}
+use Rattle.std.proofs.Math.Nat.{mul-le-mul, mul-le-mul_right, div-mul-le_self}
+use Rattle.std.proofs.lemmas.Nat.{le-div}
 use Rattle.fx_math.specs.declared.vectors.Vec3.{Vec3}
-use Rattle.fx_math.specs.Vec3.{reach, sub, dot, cross}
+use Rattle.fx_math.specs.Vec3.{reach, add, sub, neg, times, scaled_down, truncated, dot, cross}
 
 abbrev made : ℤ → ℤ → ℤ → Vec3
 made x y z = record { x = x; y = y; z = z }
@@ -69,6 +72,69 @@ reach-cross a b =
     (abs-minor a.z b.x a.x b.z _ _ (abs_z a) (abs_x b) (abs_x a) (abs_z b))
     (abs-minor a.x b.y a.y b.x _ _ (abs_x a) (abs_y b) (abs_y a) (abs_x b))
 
+pub reach-add : (a b : Vec3) → reach (add a b) ≤ reach a + reach b
+unfolding add
+reach-add a b =
+    reach_within (add a b) _
+    (omega (arith, abs-add a.x b.x, abs_x a, abs_x b))
+    (omega (arith, abs-add a.y b.y, abs_y a, abs_y b))
+    (omega (arith, abs-add a.z b.z, abs_z a, abs_z b))
+
+-- some component reaches as far as the vector
+pub reach_attained : (v : Vec3) → (reach v ≡ unsigned_abs v.x) ⊎ (reach v ≡ unsigned_abs v.y) ⊎ (reach v ≡ unsigned_abs v.z)
+unfolding reach
+reach_attained v = grind arith
+
+-- a vector whose components grow with those of v by a monotone function has the reach that grows so
+pub reach-by : (v w : Vec3) (f : ℕ → ℕ) → ((m n : ℕ) → m ≤ n → f m ≤ f n) →
+    unsigned_abs w.x ≡ f (unsigned_abs v.x) → unsigned_abs w.y ≡ f (unsigned_abs v.y) → unsigned_abs w.z ≡ f (unsigned_abs v.z) → reach w ≡ f (reach v)
+reach-by v w f grows x y z = antisymmetric below (above (reach_attained v))
+  where
+    antisymmetric : reach w ≤ f (reach v) → f (reach v) ≤ reach w → reach w ≡ f (reach v)
+    antisymmetric p q = omega arith
+
+    below : reach w ≤ f (reach v)
+    below = reach_within w _ (rw x (grows _ _ (abs_x v))) (rw y (grows _ _ (abs_y v))) (rw z (grows _ _ (abs_z v)))
+
+    above : (reach v ≡ unsigned_abs v.x) ⊎ (reach v ≡ unsigned_abs v.y) ⊎ (reach v ≡ unsigned_abs v.z) → f (reach v) ≤ reach w
+    above (inl e) = rw (e, ← x) (abs_x w)
+    above (inr (inl e)) = rw (e, ← y) (abs_y w)
+    above (inr (inr e)) = rw (e, ← z) (abs_z w)
+
+abs-neg : (a : ℤ) → unsigned_abs (neg_ℤ a) ≡ unsigned_abs a
+abs-neg a = omega (arith, ints)
+
+pub reach-neg : (v : Vec3) → reach (neg v) ≡ reach v
+unfolding neg
+reach-neg v = reach-by v (neg v) (λ n. n) (λ m n h. h) (abs-neg v.x) (abs-neg v.y) (abs-neg v.z)
+
+pub reach-times : (v : Vec3) (s : ℤ) → reach (times v s) ≡ reach v * unsigned_abs s
+unfolding times
+reach-times v s = reach-by v (times v s) (λ n. n * unsigned_abs s) (λ m n h. mul-le-mul_right (unsigned_abs s) h) (unsigned_abs-mul v.x s) (unsigned_abs-mul v.y s) (unsigned_abs-mul v.z s)
+
+pub abs-int_div : (a : ℤ) (d : ℕ) → unsigned_abs (int_div a (pos d)) ≡ unsigned_abs a / d
+abs-int_div (pos a) d = refl
+abs-int_div (negsuc a) d = abs-neg (pos (suc a / d))
+
+div-grows : (d m n : ℕ) → 0 < d → m ≤ n → m / d ≤ n / d
+div-grows d m n positive h = le-div (m / d) n d positive (omega (arith, div-mul-le_self m d))
+
+pub reach-truncated : (v : Vec3) (d : ℕ) → 0 < d → reach (truncated v d) ≡ reach v / d
+unfolding truncated
+reach-truncated v d positive = reach-by v (truncated v d) (λ n. n / d) (λ m n h. div-grows d m n positive h) (abs-int_div v.x d) (abs-int_div v.y d) (abs-int_div v.z d)
+
+abs-floor : (a : ℤ) → unsigned_abs (int_div_euclid a (pos 65536)) ≤ (unsigned_abs a + 65535) / 65536
+abs-floor (pos a) = omega arith
+abs-floor (negsuc a) = omega arith
+
+pub reach-scaled_down : (v : Vec3) → reach (scaled_down v) ≤ (reach v + 65535) / 65536
+unfolding scaled_down
+reach-scaled_down v =
+    reach_within (scaled_down v) _
+    (omega (arith, abs-floor v.x, abs_x v))
+    (omega (arith, abs-floor v.y, abs_y v))
+    (omega (arith, abs-floor v.z, abs_z v))
+
 -- ---- what the code's products and sums are
 -- a product of two components, as a call reads them
 pub read_product : (a b : ℤ) → FitsSigned w64 a → FitsSigned w64 b → to_z w64 (of_z w64 a) *ℤ to_z w64 (of_z w64 b) ≡ a *ℤ b
@@ -99,10 +165,39 @@ dot_fits a b p q =
     (abs-mul_le a.y b.y _ _ (abs_y a) (abs_y b))
     (abs-mul_le a.z b.z _ _ (abs_z a) (abs_z b))
 
--- such a product, where a vector product has room
-pub product_room : (a b : ℤ) (m n : ℕ) → FitsSigned w64 a → FitsSigned w64 b → unsigned_abs a ≤ m → unsigned_abs b ≤ n → m * n ≤ 2 ^ 61 →
-    unsigned_abs (to_z w64 (of_z w64 a)) * unsigned_abs (to_z w64 (of_z w64 b)) ≤ 2 ^ 61
+-- such a product, where it has room
+pub product_room : (a b : ℤ) (m n : ℕ) → FitsSigned w64 a → FitsSigned w64 b → unsigned_abs a ≤ m → unsigned_abs b ≤ n → m * n < 2 ^ 63 →
+    unsigned_abs (to_z w64 (of_z w64 a)) * unsigned_abs (to_z w64 (of_z w64 b)) < 2 ^ 63
 product_room a b m n f g p q h = let r = mul-le-mul p q in simp to_z-of_z (omega arith)
+
+-- a number that the code keeps
+pub kept : (p q : ℤ) → FitsSigned w64 p → p ≡ q → to_z w64 (of_z w64 p) ≡ q
+kept p q f e = to_z-of_z w64 p f ∙ e
+
+-- the absolute value of a number, as the code reads it
+pub read_abs : (a : ℤ) → FitsSigned w64 a → unsigned_abs (to_z w64 (of_z w64 a)) ≡ unsigned_abs a
+read_abs a f = ap unsigned_abs (to_z-of_z w64 a f)
+
+-- a quotient, as the code reads its dividend
+pub read_quotient : (a : ℤ) (d : ℕ) → FitsSigned w64 a → int_div (to_z w64 (of_z w64 a)) (pos d) ≡ int_div a (pos d)
+read_quotient a d f = ap (λ (b : ℤ). int_div b (pos d)) (to_z-of_z w64 a f)
+
+-- a quotient, as the code reads and keeps it
+pub kept_quotient : (a : ℤ) (d : ℕ) → FitsSigned w64 a → 0 < d → d < 2 ^ 63 → to_z w64 (of_z w64 (int_div (to_z w64 (of_z w64 a)) (to_z w64 d))) ≡ int_div a (pos d)
+kept_quotient a d f positive room =
+    rw (to_z-of_z w64 a f, to_z_pos w64 d room)
+    (kept (int_div a (pos d)) _ (quot_fits w64 a (pos d) f (omega (arith, ints))) refl)
+
+-- a shift by 16 bits, as the code reads and keeps it
+pub shifted : (a : ℤ) → FitsSigned w64 a → to_z w64 (of_z w64 (shr_z (to_z w64 (of_z w64 a)) 65536)) ≡ int_div_euclid a (pos 65536)
+shifted a f = rw (to_z-of_z w64 a f) (kept (shr_z a 65536) _ (record { sfits = small }) (is_floor a))
+  where
+    small : mag (shr_z a 65536) < 2 ^ 63
+    small = omega (arith, mag_shr a 65536, f.sfits)
+
+    is_floor : (b : ℤ) → shr_z b 65536 ≡ int_div_euclid b (pos 65536)
+    is_floor (pos n) = refl
+    is_floor (negsuc n) = refl
 
 -- the difference of two products, as the code computes it
 pub record FitShort (p q : ℤ) : Type 0 where

@@ -1,1 +1,3 @@
+pub mod Root
+pub mod UnitVector
 pub mod Vec3

@@ -1,8 +1,12 @@
 //! Exact arithmetic on whole numbers for the picture, in units of 1/65536: vectors, and the plain records of a scene.
 #![tactic(auto)]
 
+mod directions;
+mod roots;
 mod scene;
 mod vectors;
 
+pub use directions::unit;
+pub use roots::isqrt;
 pub use scene::{CameraRow, LightList, LightRow, Lighting, Place, Shape};
-pub use vectors::{Ray, Vec3, cross, dot, sub};
+pub use vectors::{Ray, Vec3, add, cross, dot, neg, scaled_down, sub, times};

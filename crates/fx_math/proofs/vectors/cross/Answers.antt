@@ -1,26 +1,26 @@
-use Rattle.std.proofs.Common.{◌≡◌, ◌*ℤ◌, ◌∙◌, rules}
+use Rattle.std.proofs.Common.{arith, ◌≡◌, ◌*ℤ◌, ◌∙◌, rules}
 use Rattle.std.proofs.lemmas.Int.{to_z-of_z}
 use Rattle.fx_math.specs.Vec3.{cross}
 use Rattle.fx_math.proofs.Sizes.{abs_x, abs_y, abs_z, cross_fits_x, cross_fits_y, cross_fits_z, product_room, reach-cross, read_product, same_vec}
 use Rattle.fx_math.proofs.vectors.cross.Goals as goal
 
 pub product-requires : goal.product-requires
-product-requires c = product_room c.args.a.y c.args.b.z _ _ (search rules) (search rules) (abs_y c.args.a) (abs_z c.args.b) c.requires
+product-requires c = product_room c.args.a.y c.args.b.z _ _ (search rules) (search rules) (abs_y c.args.a) (abs_z c.args.b) (omega (arith, c.requires))
 
 pub product-requires-2 : goal.product-requires-2
-product-requires-2 c = product_room c.args.a.z c.args.b.y _ _ (search rules) (search rules) (abs_z c.args.a) (abs_y c.args.b) c.requires
+product-requires-2 c = product_room c.args.a.z c.args.b.y _ _ (search rules) (search rules) (abs_z c.args.a) (abs_y c.args.b) (omega (arith, c.requires))
 
 pub product-requires-3 : goal.product-requires-3
-product-requires-3 c = product_room c.args.a.z c.args.b.x _ _ (search rules) (search rules) (abs_z c.args.a) (abs_x c.args.b) c.requires
+product-requires-3 c = product_room c.args.a.z c.args.b.x _ _ (search rules) (search rules) (abs_z c.args.a) (abs_x c.args.b) (omega (arith, c.requires))
 
 pub product-requires-4 : goal.product-requires-4
-product-requires-4 c = product_room c.args.a.x c.args.b.z _ _ (search rules) (search rules) (abs_x c.args.a) (abs_z c.args.b) c.requires
+product-requires-4 c = product_room c.args.a.x c.args.b.z _ _ (search rules) (search rules) (abs_x c.args.a) (abs_z c.args.b) (omega (arith, c.requires))
 
 pub product-requires-5 : goal.product-requires-5
-product-requires-5 c = product_room c.args.a.x c.args.b.y _ _ (search rules) (search rules) (abs_x c.args.a) (abs_y c.args.b) c.requires
+product-requires-5 c = product_room c.args.a.x c.args.b.y _ _ (search rules) (search rules) (abs_x c.args.a) (abs_y c.args.b) (omega (arith, c.requires))
 
 pub product-requires-6 : goal.product-requires-6
-product-requires-6 c = product_room c.args.a.y c.args.b.x _ _ (search rules) (search rules) (abs_y c.args.a) (abs_x c.args.b) c.requires
+product-requires-6 c = product_room c.args.a.y c.args.b.x _ _ (search rules) (search rules) (abs_y c.args.a) (abs_x c.args.b) (omega (arith, c.requires))
 
 pub overflow_sub-result : goal.overflow_sub-result
 overflow_sub-result c =
