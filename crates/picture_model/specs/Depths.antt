@@ -1,7 +1,7 @@
 -- Where a ray meets a triangle or a sphere. A hit at the point o + t d of the ray has the depth number floor (65536 t), at most 2^32.
 -- `IsDepth` says which number that is, by conditions on whole numbers; `depth` finds it.
-use Rattle.std.specs.Prelude.{Option, Some, None, ℕ, zero, suc, ◌+◌, ◌*◌, ◌/◌, ◌^◌, ◌<◌, ◌≤◌, ℤ, pos, neg_ℤ, ◌+ℤ◌, ◌*ℤ◌, ◌≤ℤ◌, ◌<ℤ◌, int_lt, int_le, unsigned_abs, Bool, true, false, ◌&&◌, nat_le, if◌then◌else◌, IsTrue, ◌≡◌}
-use Rattle.fx_math.specs.Vec3.{add, cross, dot, scaled, sub}
+use Rattle.std.specs.Prelude.{Option, Some, None, ℕ, zero, suc, ◌+◌, ◌*◌, ◌/◌, ◌^◌, ◌<◌, ◌≤◌, ℤ, pos, neg_ℤ, ◌+ℤ◌, ◌*ℤ◌, ◌≤ℤ◌, ◌<ℤ◌, int_lt, int_le, unsigned_abs, Bool, true, false, ◌&&◌, ◌||◌, nat_le, if◌then◌else◌, IsTrue, ◌≡◌}
+use Rattle.fx_math.specs.Vec3.{add, cross, dot, sub, times}
 use Rattle.fx_math.specs.declared.vectors.Vec3.{Vec3}
 use Rattle.fx_math.specs.declared.vectors.Ray.{Ray}
 use Rattle.fx_math.specs.declared.scene.Shape.{Shape}
@@ -44,14 +44,19 @@ pub record IsCrossedAt (c : Crossing) (s : ℕ) : Type 0 where
 
 -- 65536 times the way from the centre to the ray's point at the depth number s
 unfoldable pub from_centre : Ray → Vec3 → ℕ → Vec3
-from_centre ray centre s = add (scaled (pos 65536) (sub ray.o centre)) (scaled (pos s) ray.d)
+from_centre ray centre s = add (times (sub ray.o centre) (pos 65536)) (times ray.d (pos s))
+
+-- the square of its length
+unfoldable pub distance_at : Ray → Vec3 → ℕ → ℤ
+distance_at ray centre s = dot (from_centre ray centre s) (from_centre ray centre s)
 
 -- the ray's point at s lies in the ball of this radius, its surface included
 unfoldable pub is_in_ball : Ray → Vec3 → ℤ → ℕ → Bool
-is_in_ball ray centre radius s =
-    let way = from_centre ray centre s in
-    let reach = pos 65536 *ℤ radius in
-    int_le (dot way way) (reach *ℤ reach)
+is_in_ball ray centre radius s = int_le (distance_at ray centre s) (pos 65536 *ℤ radius *ℤ (pos 65536 *ℤ radius))
+
+-- the ray's point at s lies in the ball, or the next one is no nearer to the centre
+unfoldable pub is_settled : Ray → Vec3 → ℤ → ℕ → Bool
+is_settled ray centre radius s = is_in_ball ray centre radius s || int_le (distance_at ray centre s) (distance_at ray centre (s + 1))
 
 -- the ray enters the ball at s: no point before it lies in the ball
 pub record IsEnteredAt (ray : Ray) (centre : Vec3) (radius : ℤ) (s : ℕ) : Type 0 where

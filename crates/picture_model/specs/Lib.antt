@@ -1,4 +1,4 @@
-pub mod Floor
+pub mod Fixed
 pub mod Rays
 pub mod Depths
 pub mod Hits

@@ -1,5 +1,5 @@
 -- What a scene keeps to, so that each number of the picture has a bound. Coordinates, directions and radii count 1/65536.
-use Rattle.std.specs.Prelude.{ℕ, ◌^◌, ◌≤◌, List, length, All, ℤ, pos, ◌≤ℤ◌, unsigned_abs}
+use Rattle.std.specs.Prelude.{ℕ, ◌+◌, ◌*◌, ◌^◌, ◌≤◌, List, length, All, ℤ, pos, ◌≤ℤ◌, unsigned_abs}
 use Rattle.fx_math.specs.Vec3.{reach}
 use Rattle.fx_math.specs.declared.vectors.Vec3.{Vec3}
 use Rattle.fx_math.specs.declared.vectors.Ray.{Ray}
@@ -11,7 +11,11 @@ use Rattle.fx_math.specs.declared.scene.LightRow.{LightRow}
 use Rattle.fx_math.specs.declared.scene.LightRow.TheVariants.{Directional, Point}
 use Rattle.fx_math.specs.declared.scene.Lighting.{Lighting}
 use Rattle.picture_model.specs.declared.depths.Crossing.{Crossing}
+use Rattle.picture_model.specs.declared.rays.Axes.{Axes}
+use Rattle.picture_model.specs.declared.records.Blend.{Blend}
+use Rattle.picture_model.specs.declared.records.HitRow.{HitRow}
 use Rattle.picture_model.specs.declared.records.Primitive.{Primitive}
+use Rattle.picture_model.specs.Shading.{component}
 use Rattle.picture_model.specs.declared.records.Scene.{Scene}
 
 -- low ≤ z ≤ high
@@ -44,6 +48,12 @@ IsShapeWithin (Sphere centre radius) = IsSphereWithin centre radius
 pub record IsRayWithin (ray : Ray) : Type 0 where
   pub origin : reach ray.o ≤ 2 ^ 30
   pub direction : reach ray.d ≤ 2 ^ 25
+
+-- the axes of a camera
+pub record AreAxesWithin (axes : Axes) : Type 0 where
+  pub forward : reach axes.forward ≤ 65536
+  pub right : reach axes.right ≤ 65536
+  pub up : reach axes.up ≤ 65536
 
 -- position, direction and up of a camera, its aspect, and its height or tangent with the greatest that this may be
 pub record IsViewWithin (position direction up : Vec3) (aspect extent : ℤ) (most : ℕ) : Type 0 where
@@ -78,6 +88,25 @@ pub record IsPrimitiveWithin (primitive : Primitive) : Type 0 where
   pub shape : IsShapeWithin primitive.shape
   pub color : IsColor primitive.color
   pub opacity : IsBetween 0 65536 primitive.opacity
+
+-- a hit within the limits, as shading sees it
+pub record IsHitRowWithin (row : HitRow) : Type 0 where
+  pub depth : row.depth ≤ 2 ^ 32
+  pub shape : IsShapeWithin row.shape
+  pub color : IsColor row.color
+  pub opacity : IsBetween 0 65536 row.opacity
+
+-- light gathered by hits that let `rest` of 65536 through: each took its share of at most 2^72
+pub record IsSumWithin (sum : ℤ) (rest : ℕ) : Type 0 where
+  pub sign : pos 0 ≤ℤ sum
+  pub size : 65536 * unsigned_abs sum + 2 ^ 72 * rest ≤ 2 ^ 88
+
+-- a blend of hits within the limits
+pub record IsBlendWithin (b : Blend) : Type 0 where
+  pub red : IsSumWithin (component b.sum 0) b.rest
+  pub green : IsSumWithin (component b.sum 1) b.rest
+  pub blue : IsSumWithin (component b.sum 2) b.rest
+  pub rest : b.rest ≤ 65536
 
 -- the width or the height of a frame
 pub record IsSide (n : ℕ) : Type 0 where

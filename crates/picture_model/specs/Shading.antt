@@ -1,10 +1,10 @@
 -- The colour of a pixel: light from the lamps of the scene comes back from each surface that the ray meets (ANARI 1.0 Specification,
 -- Light and Material), and the surfaces lie over each other from front to back by their opacity. Colours have 65536 for one.
-use Rattle.std.specs.Prelude.{Option, ℕ, List, [], ◌∷◌, fold, map, min, ◌+◌, ◌-◌, ◌*◌, ◌/◌, ◌^◌, ℤ, pos, ◌+ℤ◌, ◌*ℤ◌, int_lt, int_le, unsigned_abs, Bool, ◌&&◌, ◌==◌, if◌then◌else◌, slice_index_or}
+use Rattle.std.specs.Prelude.{Option, ℕ, List, [], ◌∷◌, fold, map, min, ◌+◌, ◌-◌, ◌*◌, ◌/◌, ◌^◌, ℤ, pos, ◌+ℤ◌, int_lt, int_le, unsigned_abs, Bool, ◌&&◌, ◌==◌, if◌then◌else◌, slice_index_or}
 use Rattle.std.specs.List.{filter_map, find}
-use Rattle.std.specs.Int.{int_min}
 use Rattle.std.specs.Option.{option_map}
-use Rattle.fx_math.specs.Vec3.{add, cross, dot, floored, neg, scaled, sub, unit}
+use Rattle.fx_math.specs.UnitVector.{unit}
+use Rattle.fx_math.specs.Vec3.{add, cross, dot, neg, scaled_down, sub, times}
 use Rattle.fx_math.specs.declared.vectors.Vec3.{Vec3}
 use Rattle.fx_math.specs.declared.vectors.Ray.{Ray}
 use Rattle.fx_math.specs.declared.scene.Place.{Place}
@@ -17,7 +17,7 @@ use Rattle.picture_model.specs.declared.records.Blend.{Blend}
 use Rattle.picture_model.specs.declared.records.Hit.{Hit}
 use Rattle.picture_model.specs.declared.records.HitRow.{HitRow}
 use Rattle.picture_model.specs.declared.records.Primitive.{Primitive}
-use Rattle.picture_model.specs.Floor.{◌/ℤ◌}
+use Rattle.picture_model.specs.Fixed.{◌/ℤ◌, product}
 use Rattle.picture_model.specs.Hits.{hits}
 
 -- component i of a colour: red, green, blue
@@ -26,7 +26,7 @@ component color i = slice_index_or color i (pos 0)
 
 -- the point of the ray at a depth number
 unfoldable pub point_at : Ray → ℕ → Vec3
-point_at ray s = add ray.o (floored 65536 (scaled (pos s) ray.d))
+point_at ray s = add ray.o (scaled_down (times ray.d (pos s)))
 
 -- the unit normal of a shape at one of its points, on either of its sides
 unfoldable pub normal_of : Shape → Vec3 → Vec3
@@ -42,13 +42,16 @@ unfoldable pub towards : LightRow → Vec3 → Vec3
 towards (Directional direction color irradiance) point = unit (neg direction)
 towards (Point position color intensity) point = unit (sub position point)
 
--- how strongly a light shines at a point: a point light's intensity falls with the square of the distance
+-- what a point light of this intensity shines with from this far: it falls with the square of the distance
+unfoldable pub faded : ℤ → Vec3 → ℤ
+faded intensity way =
+  let squared = unsigned_abs (dot way way) in
+  if squared == 0 then pos 0 else pos (min (2 ^ 31 - 1) (unsigned_abs intensity * 2 ^ 32 / squared))
+
+-- how strongly a light shines at a point
 unfoldable pub irradiance_at : LightRow → Vec3 → ℤ
 irradiance_at (Directional direction color irradiance) point = irradiance
-irradiance_at (Point position color intensity) point =
-    let way = sub position point in
-    let squared = unsigned_abs (dot way way) in
-    if squared == 0 then pos 0 else int_min (pos (2 ^ 31 - 1)) (intensity *ℤ pos (2 ^ 32) /ℤ squared)
+irradiance_at (Point position color intensity) point = faded intensity (sub position point)
 
 -- the colour of a light
 unfoldable pub color_of : LightRow → List ℤ
@@ -62,48 +65,55 @@ cosine normal direction = if int_le (dot normal direction) (pos 0) then pos 0 el
 -- component i of the light of one lamp that a surface with this normal takes in at a point
 unfoldable pub share_of : ℕ → Vec3 → Vec3 → LightRow → ℤ
 share_of i normal point light =
-    (component (color_of light) i *ℤ irradiance_at light point /ℤ 65536) *ℤ cosine normal (towards light point) /ℤ 65536
+  product (product (component (color_of light) i) (irradiance_at light point)) (cosine normal (towards light point))
 
--- component i of the light of all lamps
+-- component i of the light of some lamps
 abbrev pub shares : ℕ → Vec3 → Vec3 → List LightRow → ℤ
 shares i normal point [] = pos 0
 shares i normal point (light ∷ lights) = share_of i normal point light +ℤ shares i normal point lights
 
--- component i of the light that is everywhere
-unfoldable pub ambient : ℕ → Lighting → ℤ
-ambient i lighting = component lighting.ambient_color i *ℤ lighting.ambient_radiance /ℤ 65536
+-- component i of all light that such a surface takes in: what is everywhere, and that of all lamps
+unfoldable pub incoming : ℕ → Lighting → Vec3 → Vec3 → ℤ
+incoming i lighting normal point =
+  product (component lighting.ambient_color i) lighting.ambient_radiance +ℤ shares i normal point lighting.lights
 
 -- component i of the light that comes back from a hit
 unfoldable pub radiance : ℕ → Lighting → Ray → HitRow → ℤ
 radiance i lighting ray row =
-    let point = point_at ray row.depth in
-    let normal = facing ray (normal_of row.shape point) in
-    component row.color i *ℤ (ambient i lighting +ℤ shares i normal point lighting.lights) /ℤ 65536
+  let point = point_at ray row.depth in
+  product (component row.color i) (incoming i lighting (facing ray (normal_of row.shape point)) point)
 
 -- before the first hit no light is gathered, and all that lies behind still shows
 unfoldable pub unblended : Blend
 unblended = record { sum = pos 0 ∷ pos 0 ∷ pos 0 ∷ []; rest = 65536 }
 
--- the share of what still shows that a hit takes for itself
-unfoldable pub weight : Blend → HitRow → ℕ
-weight b row = b.rest * unsigned_abs row.opacity / 65536
+-- the share of what still shows that a surface of this opacity takes for itself
+unfoldable pub weight : ℕ → ℤ → ℕ
+weight rest opacity = rest * unsigned_abs opacity / 65536
+
+-- component i of the light gathered with one more hit
+unfoldable pub blended : ℕ → Lighting → Ray → Blend → HitRow → ℤ
+blended i lighting ray b row = component b.sum i +ℤ product (radiance i lighting ray row) (pos (weight b.rest row.opacity))
 
 -- the blend with one more hit behind those that it has
 unfoldable pub blend_hit : Lighting → Ray → Blend → HitRow → Blend
-blend_hit lighting ray b row =
-    let w = weight b row in
-    let blended = λ (i : ℕ). component b.sum i +ℤ radiance i lighting ray row *ℤ pos w /ℤ 65536 in
-    record { sum = blended 0 ∷ blended 1 ∷ blended 2 ∷ []; rest = b.rest - w }
+blend_hit lighting ray b row = record {
+  sum = blended 0 lighting ray b row ∷ blended 1 lighting ray b row ∷ blended 2 lighting ray b row ∷ [];
+  rest = b.rest - weight b.rest row.opacity;
+}
 
 -- the byte of a colour component that is not negative: 255 from one on
 unfoldable pub to_byte : ℤ → ℕ
 to_byte radiance = min 255 ((unsigned_abs radiance * 255 + 32768) / 65536)
 
--- red, green, blue and alpha, with the background behind the last hit
+-- component i of what a pixel shows: the light gathered, and the background behind the last hit
+unfoldable pub shown : ℕ → Lighting → Blend → ℤ
+shown i lighting b = component b.sum i +ℤ product (component lighting.background i) (pos b.rest)
+
+-- red, green, blue and alpha
 unfoldable pub finish_blend : Lighting → Blend → List ℕ
 finish_blend lighting b =
-    let shown = λ (i : ℕ). to_byte (component b.sum i +ℤ component lighting.background i *ℤ pos b.rest /ℤ 65536) in
-    shown 0 ∷ shown 1 ∷ shown 2 ∷ to_byte (pos (65536 - b.rest)) ∷ []
+  to_byte (shown 0 lighting b) ∷ to_byte (shown 1 lighting b) ∷ to_byte (shown 2 lighting b) ∷ to_byte (pos (65536 - b.rest)) ∷ []
 
 -- the same place
 unfoldable pub is_same_place : Place → Place → Bool

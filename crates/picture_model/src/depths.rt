@@ -1,9 +1,9 @@
 ghost use Rattle.std.specs.Prelude.{◌≡◌, ◌+◌, ◌≤◌, ◌^◌, unsigned_abs};
 ghost use Rattle.fx_math.specs.Vec3.{cross, dot, reach};
-ghost use Rattle.picture_model.specs.Depths.{crossing, turned, is_crossed, crossing_depth, sphere_depth, depth};
+ghost use Rattle.picture_model.specs.Depths.{crossing, turned, is_crossed, crossing_depth, depth, distance_at, farthest, from_centre, is_in_ball, is_settled, sphere_depth};
 ghost use Rattle.picture_model.specs.Limits.{IsCrossingWithin, IsPoint, IsRayWithin, IsShapeWithin, IsSphereWithin};
 
-use fx_math::{Ray, Shape, Vec3, cross, dot, sub};
+use fx_math::{Ray, Shape, Vec3, add, cross, dot, sub, times};
 
 /// Where a ray meets a triangle's plane, as fractions over one denominator: `t / det` along the ray, `p / det` along the first edge and
 /// `q / det` along the second.
@@ -91,12 +91,66 @@ fn crossing_depth(c: &Crossing) -> Option<u64>
     if depth <= FARTHEST as u128 { Some(depth as u64) } else { None }
 }
 
+/// 65536 times the way from the centre to the ray's point at the depth number `s`.
+fn from_centre(ray: &Ray, centre: Vec3, s: u64) -> Vec3
+    requires ray { IsRayWithin ray.now }
+    requires centre { IsPoint centre }
+    requires near { s ≤ 2 ^ 32 + 1 }
+    ensures value { result ≡ from_centre ray.now centre s }
+    ensures size { reach result ≤ 2 ^ 58 }
+{
+    add(times(sub(ray.o, centre), 65536), times(ray.d, s as i64))
+}
+
+/// The square of its length.
+fn distance_at(ray: &Ray, centre: Vec3, s: u64) -> i128
+    requires ray { IsRayWithin ray.now }
+    requires centre { IsPoint centre }
+    requires near { s ≤ 2 ^ 32 + 1 }
+    ensures { result ≡ distance_at ray.now centre s }
+{
+    let way = from_centre(ray, centre, s);
+    dot(way, way)
+}
+
+/// The ray's point at `s` lies in the ball, its surface included.
+fn is_in_ball(ray: &Ray, centre: Vec3, radius: i64, s: u64) -> bool
+    requires ray { IsRayWithin ray.now }
+    requires sphere { IsSphereWithin centre radius }
+    requires near { s ≤ farthest }
+    ensures { result ≡ is_in_ball ray.now centre radius s }
+{
+    let reach = 65536 * radius as i128;
+    distance_at(ray, centre, s) <= reach * reach
+}
+
+/// From `s` on the ray's points lie in the ball or come no nearer to it: so the first of these numbers is where the ray enters
+/// the ball, or else it never does.
+fn is_settled(ray: &Ray, centre: Vec3, radius: i64, s: u64) -> bool
+    requires ray { IsRayWithin ray.now }
+    requires sphere { IsSphereWithin centre radius }
+    requires near { s ≤ farthest }
+    ensures { result ≡ is_settled ray.now centre radius s }
+{
+    is_in_ball(ray, centre, radius, s) || distance_at(ray, centre, s) <= distance_at(ray, centre, s + 1)
+}
+
 fn sphere_depth(ray: &Ray, centre: Vec3, radius: i64) -> Option<u64>
     requires ray { IsRayWithin ray.now }
     requires sphere { IsSphereWithin centre radius }
     ensures { result ≡ sphere_depth ray.now centre radius }
 {
-    None
+    let mut low = 0;
+    let mut high = FARTHEST;
+    while low < high {
+        let middle = (low + high) / 2;
+        if is_settled(ray, centre, radius, middle) {
+            high = middle;
+        } else {
+            low = middle + 1;
+        }
+    }
+    if is_in_ball(ray, centre, radius, low) { Some(low) } else { None }
 }
 
 /// The depth number of the ray's hit with the shape, if it is hit.

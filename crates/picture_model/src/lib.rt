@@ -3,11 +3,20 @@
 #![tactic(auto)]
 
 mod depths;
+mod pictures;
+mod rays;
 mod records;
 mod search;
+mod shading;
 mod tiles;
 
+#[cfg(test)]
+mod tests;
+
 pub use depths::{Crossing, depth};
-pub use records::{Blend, Hit, HitRow, Plane, Primitive, PrimitiveList, Rect, Scene};
+pub use pictures::{part, picture, pixel, shade};
+pub use rays::{Axes, camera_ray};
+pub use records::{Blend, Hit, HitRow, NO_ID, Plane, Primitive, PrimitiveList, Rect, Scene};
 pub use search::{hit_after, hits, is_nearer, nearer, nearest};
+pub use shading::{blend_hit, finish_blend, to_byte};
 pub use tiles::{tile_count, tile_of, tile_rect};

@@ -3,6 +3,9 @@ ghost use Rattle.std.specs.Prelude.{◌≡◌, ◌<◌, length, slice_get};
 use fx_math::{CameraRow, Lighting, Place, Shape};
 use std::marker::Model;
 
+/// An id where there is none.
+pub const NO_ID: u32 = 0xFFFF_FFFF;
+
 /// A triangle or a sphere of a scene, and what a pixel shows where it is hit (ANARI 1.0 Specification, Surface).
 #[derive(Clone, Copy, Debug, PartialEq, Eq)]
 pub struct Primitive {

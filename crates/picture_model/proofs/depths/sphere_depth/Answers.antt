@@ -1,4 +1,0 @@
-use Rattle.picture_model.proofs.depths.sphere_depth.Goals as goal
-
-pub returns : goal.returns
-returns c = ?
