@@ -3,7 +3,7 @@ ghost use Rattle.fx_math.specs.UnitVector.{halvings, long_length, unit};
 ghost use Rattle.fx_math.specs.Vec3.{reach, truncated};
 
 use crate::roots::isqrt;
-use crate::vectors::{Vec3, dot, times};
+use crate::vectors::{Vec3, dot, reach, times};
 
 /// The vector of length 65536 along `v`, as near as whole numbers rounded toward zero come to it; the zero vector gives
 /// itself. Components are within 2^62.
@@ -12,21 +12,12 @@ pub fn unit(v: Vec3) -> Vec3
     ensures value { result ≡ unit v }
     ensures size { reach result ≤ 65536 }
 {
-    let greatest = greatest_component(v);
+    let greatest = reach(v);
     if greatest == 0 {
         return v;
     }
     let short = halved(v, halvings(greatest));
     truncated(times(short, 1 << 32), long_length(short))
-}
-
-/// The greatest absolute value of a component.
-fn greatest_component(v: Vec3) -> u64
-    ensures { result ≡ reach v }
-{
-    v.x.unsigned_abs()
-        .max(v.y.unsigned_abs())
-        .max(v.z.unsigned_abs())
 }
 
 /// The least number of halvings that bring `m` below 2^30.

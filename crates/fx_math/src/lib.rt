@@ -4,9 +4,14 @@
 mod directions;
 mod roots;
 mod scene;
+mod transforms;
 mod vectors;
 
 pub use directions::unit;
 pub use roots::isqrt;
 pub use scene::{CameraRow, LightList, LightRow, Lighting, Place, Shape};
-pub use vectors::{Ray, Vec3, add, cross, dot, neg, scaled_down, sub, times};
+pub use transforms::{Mat34, transform, transform_direction, transform_radius};
+pub use vectors::{Ray, Vec3, add, cross, dot, neg, reach, scaled_down, sub, times};
+
+#[cfg(test)]
+mod tests;

@@ -16,6 +16,15 @@ pub struct Ray {
     pub d: Vec3,
 }
 
+/// The greatest absolute value of a component.
+pub fn reach(v: Vec3) -> u64
+    ensures { result ≡ reach v }
+{
+    v.x.unsigned_abs()
+        .max(v.y.unsigned_abs())
+        .max(v.z.unsigned_abs())
+}
+
 /// The sum `a + b`.
 pub fn add(a: Vec3, b: Vec3) -> Vec3
     requires { reach a + reach b < 2 ^ 63 }
@@ -89,7 +98,7 @@ pub fn scaled_down(v: Vec3) -> Vec3
 }
 
 /// The product of two numbers, which has room in twice their width.
-fn wide_product(a: i64, b: i64) -> i128
+pub(crate) fn wide_product(a: i64, b: i64) -> i128
     ensures { result ≡ a *ℤ b }
 {
     a as i128 * b as i128
