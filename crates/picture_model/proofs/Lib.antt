@@ -1,3 +1,4 @@
 pub mod Crossings
 pub mod HitOrder
 pub mod Numbers
+pub mod Spheres
