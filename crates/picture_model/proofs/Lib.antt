@@ -1,4 +1,5 @@
 pub mod Crossings
+pub mod HitLists
 pub mod HitOrder
 pub mod Numbers
 pub mod Spheres

@@ -5,7 +5,7 @@ use Rattle.std.proofs.lemmas.Nat.{le-div}
 use Rattle.std.proofs.Math.Nat.{mul-le-mul, div-mul-le_self, le_of_mul-le-mul_right}
 use Rattle.std.specs.Int.{int_div_euclid}
 use Rattle.fx_math.proofs.Sizes.{abs-mul_le}
-use lib.Signed.{mag}
+use lib.Signed.{mag, shr_z}
 use mir.Syntax.{w32, w64, w128}
 use Rattle.picture_model.specs.Limits.{IsBetween}
 
@@ -67,3 +67,8 @@ pub window_quotient : (z length unit : ℕ) → 0 < unit → z ≤ length * 2 ^ 
 window_quotient z length unit h l =
     let d = div-mul-le_self z (65536 * unit) in
     le-div (z / (65536 * unit)) (16 * length) unit h (omega arith)
+
+-- a shift to the right is a division that rounds down
+pub read_shifted : (z : ℤ) → mag z < 2 ^ 127 → to_z w128 (of_z w128 (shr_z z 65536)) ≡ int_div_euclid z (pos 65536)
+read_shifted (pos n) h = omega (arith, ints)
+read_shifted (negsuc n) h = omega (arith, ints)

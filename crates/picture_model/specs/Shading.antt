@@ -46,7 +46,7 @@ towards (Point position color intensity) point = unit (sub position point)
 unfoldable pub faded : ℤ → Vec3 → ℤ
 faded intensity way =
   let squared = unsigned_abs (dot way way) in
-  if squared == 0 then pos 0 else pos (min (2 ^ 31 - 1) (unsigned_abs intensity * 2 ^ 32 / squared))
+  if squared == 0 then pos 0 else pos (min (unsigned_abs intensity * 2 ^ 32 / squared) (2 ^ 31 - 1))
 
 -- how strongly a light shines at a point
 unfoldable pub irradiance_at : LightRow → Vec3 → ℤ

@@ -106,6 +106,7 @@ fn irradiance_at(light: &LightRow, point: Vec3) -> i128
 }
 
 /// The colour of a light.
+#[tactic(auto, unfolding(crate::specs::Shading::color_of))]
 fn color_of(light: &LightRow) -> [i32; 3]
     requires { IsLightWithin light.now }
     ensures value { result ≡ color_of light.now }
@@ -172,6 +173,7 @@ fn radiance(i: usize, lighting: &Lighting, ray: &Ray, row: &HitRow) -> i128
 }
 
 /// The share of what still shows that a hit takes for itself.
+#[tactic(auto, unfolding(crate::specs::Shading::weight))]
 fn weight(rest: u32, opacity: i32) -> u32
     requires rest { rest ≤ 65536 }
     requires opacity { IsBetween 0 65536 opacity }
@@ -214,6 +216,7 @@ pub fn blend_hit(lighting: &Lighting, ray: &Ray, row: &HitRow, blend: &mut Blend
 }
 
 /// The byte of a colour component that is not negative: 255 from one on.
+#[tactic(auto, unfolding(crate::specs::Shading::to_byte))]
 pub fn to_byte(radiance: i128) -> u8
     requires { pos 0 ≤ℤ radiance }
     ensures { result ≡ to_byte radiance }
