@@ -1,5 +1,5 @@
 -- Numbers as the code reads them, and how large quotients and products are.
-use Rattle.std.proofs.Common.{◌≡◌, ℕ, suc, ◌+◌, ◌*◌, ◌/◌, ◌^◌, ◌<◌, ◌≤◌, ℤ, pos, negsuc, ◌*ℤ◌, FitsSigned, to_z, of_z, unsigned_abs, arith, ap, ◌∙◌, refl}
+use Rattle.std.proofs.Common.{◌≡◌, ℕ, suc, ◌+◌, ◌*◌, ◌/◌, ◌^◌, ◌<◌, ◌≤◌, ℤ, pos, negsuc, ◌+ℤ◌, ◌*ℤ◌, ◌≤ℤ◌, FitsSigned, to_z, of_z, unsigned_abs, arith, ap, ◌∙◌, refl}
 use Rattle.std.proofs.lemmas.Int.{ints, to_z-of_z, to_z_pos}
 use Rattle.std.proofs.lemmas.Nat.{le-div}
 use Rattle.std.proofs.Math.Nat.{mul-le-mul, div-mul-le_self, le_of_mul-le-mul_right}
@@ -72,3 +72,17 @@ window_quotient z length unit h l =
 pub read_shifted : (z : ℤ) → mag z < 2 ^ 127 → to_z w128 (of_z w128 (shr_z z 65536)) ≡ int_div_euclid z (pos 65536)
 read_shifted (pos n) h = omega (arith, ints)
 read_shifted (negsuc n) h = omega (arith, ints)
+
+pub between : (z : ℤ) (m : ℕ) → pos 0 ≤ℤ z → unsigned_abs z ≤ m → IsBetween 0 m z
+between z m sign size = record { from = sign; to = omega (arith, ints) }
+
+-- a sum and a count, as the code reads them
+pub read_wide_sum : (a b : ℤ) → unsigned_abs a ≤ 2 ^ 110 → unsigned_abs b ≤ 2 ^ 110 →
+    to_z w128 (of_z w128 (to_z w128 (of_z w128 a) +ℤ to_z w128 (of_z w128 b))) ≡ a +ℤ b
+read_wide_sum a b p q = omega (arith, ints)
+
+pub read_wide_count : (n : ℕ) → n < 2 ^ 64 → to_z w128 n ≡ pos n
+read_wide_count n h = to_z_pos w128 n (omega arith)
+
+pub read_wide_cast : (z : ℤ) → FitsSigned w32 z → to_z w128 (of_z w128 (to_z w32 (of_z w32 z))) ≡ z
+read_wide_cast z f = omega (arith, ints)

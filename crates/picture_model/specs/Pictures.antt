@@ -41,9 +41,13 @@ abbrev pub in_a_row : (ℕ → List ℕ) → ℕ → ℕ → List ℕ
 in_a_row f i zero = []
 in_a_row f i (suc n) = f i ++ in_a_row f (i + 1) n
 
+-- the pixels of row y of a rectangle
+abbrev pub row_of : (ℕ → ℕ → List ℕ) → Rect → ℕ → List ℕ
+row_of pixel_at rect y = in_a_row (λ x. pixel_at x y) rect.x0 rect.w
+
 -- the pixels of a rectangle by rows from its lower left one
 unfoldable pub pixels_in : (ℕ → ℕ → List ℕ) → Rect → List ℕ
-pixels_in pixel_at rect = in_a_row (λ y. in_a_row (λ x. pixel_at x y) rect.x0 rect.w) rect.y0 rect.h
+pixels_in pixel_at rect = in_a_row (row_of pixel_at rect) rect.y0 rect.h
 
 -- one picture of a scene
 unfoldable pub picture : Scene → Plane → List ℕ

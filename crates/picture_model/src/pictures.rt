@@ -1,7 +1,6 @@
-ghost use Rattle.std.specs.Prelude.{◌≡◌, ◌+◌, ◌^◌, ◌<◌, ◌≤◌, All, IfOk};
-ghost use Rattle.std.specs.Option.{option_copied};
+ghost use Rattle.std.specs.Prelude.{◌≡◌, ◌+◌, ◌<◌, ◌≤◌, ◌++◌, All, IfOk, OnOk};
 ghost use Rattle.picture_model.specs.Limits.{IsLightingWithin, IsPrimitiveWithin, IsRayWithin, IsSceneWithin};
-ghost use Rattle.picture_model.specs.Pictures.{front, id_bytes, part, picture, pixel, pixels_in, ray_at};
+ghost use Rattle.picture_model.specs.Pictures.{front, part, picture, pixel, pixels_in, row_of};
 ghost use Rattle.picture_model.specs.Shading.{hit_row, is_same_place, primitive_at, shade};
 ghost use Rattle.picture_model.specs.Tiles.{tile_count};
 
@@ -13,6 +12,7 @@ use crate::tiles::tile_rect;
 use fx_math::{Lighting, Place, Ray};
 use std::alloc::{AllocError, Global};
 
+#[tactic(auto, unfolding(crate::specs::Shading::is_same_place))]
 fn is_same_place(a: &Place, b: &Place) -> bool
     ensures { result ≡ is_same_place a.now b.now }
 {
@@ -94,7 +94,12 @@ pub fn pixel(scene: &Scene, plane: Plane, x: u32, y: u32) -> [u8; 4]
 }
 
 /// Adds the pixels of row `y` of a rectangle.
-fn push_row(out: &mut Vec<u8>, scene: &Scene, plane: Plane, rect: &Rect, y: u32) -> Result<(), AllocError> {
+fn push_row(out: &mut Vec<u8>, scene: &Scene, plane: Plane, rect: &Rect, y: u32) -> Result<(), AllocError>
+    requires scene { IsSceneWithin scene.now }
+    requires column { rect.now.x0 + rect.now.w ≤ scene.now.width }
+    requires row { y < scene.now.height }
+    ensures { OnOk result (out.new.items ≡ out.old.items ++ row_of (pixel scene.now plane) rect.now y) }
+{
     for x in rect.x0..rect.x0 + rect.w {
         out.extend_from_slice(&pixel(scene, plane, x, y))?;
     }
@@ -102,7 +107,12 @@ fn push_row(out: &mut Vec<u8>, scene: &Scene, plane: Plane, rect: &Rect, y: u32)
 }
 
 /// The pixels of a rectangle of a picture by rows from its lower left one, four bytes each. The only error is want of memory.
-fn pixels_in(alloc: Global, scene: &Scene, plane: Plane, rect: &Rect) -> Result<Vec<u8>, AllocError> {
+fn pixels_in(alloc: Global, scene: &Scene, plane: Plane, rect: &Rect) -> Result<Vec<u8>, AllocError>
+    requires scene { IsSceneWithin scene.now }
+    requires columns { rect.now.x0 + rect.now.w ≤ scene.now.width }
+    requires rows { rect.now.y0 + rect.now.h ≤ scene.now.height }
+    ensures { IfOk result (λ bytes. bytes.items ≡ pixels_in (pixel scene.now plane) rect.now) }
+{
     let mut out = Vec::new(alloc);
     for y in rect.y0..rect.y0 + rect.h {
         push_row(&mut out, scene, plane, rect, y)?;
