@@ -123,15 +123,15 @@ is_settled-before ray centre radius s k h l = by_test (is_settled ray centre rad
         absurd (cc (rw there at on))
 
 -- ---- the least number that passes
-found_here : (test : ℕ → Bool) (n k : ℕ) → test k ≡ true → first_from test (suc n) k ≡ Some k
+pub found_here : (test : ℕ → Bool) (n k : ℕ) → test k ≡ true → first_from test (suc n) k ≡ Some k
 unfolding first_from
 found_here test n k h = rw (h, first_from) refl
 
-found_later : (test : ℕ → Bool) (n k : ℕ) → test k ≡ false → first_from test (suc n) k ≡ first_from test n (suc k)
+pub found_later : (test : ℕ → Bool) (n k : ℕ) → test k ≡ false → first_from test (suc n) k ≡ first_from test n (suc k)
 unfolding first_from
 found_later test n k h = rw (h, first_from) refl
 
-found_never : (test : ℕ → Bool) (k : ℕ) → first_from test zero k ≡ None
+pub found_never : (test : ℕ → Bool) (k : ℕ) → first_from test zero k ≡ None
 unfolding first_from
 found_never test k = refl
 

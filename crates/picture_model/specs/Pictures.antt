@@ -1,7 +1,7 @@
 -- The pictures of a scene: every primitive is tried at every pixel.
 use Rattle.std.specs.Prelude.{Option, ℕ, zero, suc, ◌+◌, List, [], ◌++◌}
 use Rattle.std.specs.Int.{to_le_bytes, w32}
-use Rattle.std.specs.Option.{option_and_then, option_map_or}
+use Rattle.std.specs.Option.{option_and_then, option_map, unwrap_or}
 use Rattle.fx_math.specs.declared.vectors.Ray.{Ray}
 use Rattle.picture_model.specs.declared.records.Plane.{Plane}
 use Rattle.picture_model.specs.declared.records.Plane.TheVariants.{Color, PrimitiveId, ObjectId, InstanceId}
@@ -25,16 +25,16 @@ front primitives ray = option_and_then (λ h. primitive_at primitives h.place) (
 abbrev pub no_id : ℕ
 no_id = 0xFFFF_FFFF
 
--- an id of the front primitive, lowest byte first; that of the background is none
-abbrev pub id_bytes : (Primitive → ℕ) → Option Primitive → List ℕ
-id_bytes id_of primitive = to_le_bytes w32 (option_map_or id_of primitive no_id)
+-- an id, lowest byte first, where there may be none
+abbrev pub id_bytes : Option ℕ → List ℕ
+id_bytes id = to_le_bytes w32 (unwrap_or id no_id)
 
--- the four bytes of pixel (x, y)
+-- the four bytes of pixel (x, y): its colour, or an id of the front primitive
 unfoldable pub pixel : Scene → Plane → ℕ → ℕ → List ℕ
 pixel scene Color x y = shade scene.primitives scene.lighting (ray_at scene x y)
-pixel scene PrimitiveId x y = id_bytes (λ p. p.place.prim) (front scene.primitives (ray_at scene x y))
-pixel scene ObjectId x y = id_bytes (λ p. p.object_id) (front scene.primitives (ray_at scene x y))
-pixel scene InstanceId x y = id_bytes (λ p. p.instance_id) (front scene.primitives (ray_at scene x y))
+pixel scene PrimitiveId x y = id_bytes (option_map (λ p. p.place.prim) (front scene.primitives (ray_at scene x y)))
+pixel scene ObjectId x y = id_bytes (option_map (λ p. p.object_id) (front scene.primitives (ray_at scene x y)))
+pixel scene InstanceId x y = id_bytes (option_map (λ p. p.instance_id) (front scene.primitives (ray_at scene x y)))
 
 -- f i, f (i + 1) and so on, n lists in a row
 abbrev pub in_a_row : (ℕ → List ℕ) → ℕ → ℕ → List ℕ

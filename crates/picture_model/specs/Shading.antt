@@ -1,6 +1,6 @@
 -- The colour of a pixel: light from the lamps of the scene comes back from each surface that the ray meets (ANARI 1.0 Specification,
 -- Light and Material), and the surfaces lie over each other from front to back by their opacity. Colours have 65536 for one.
-use Rattle.std.specs.Prelude.{Option, ℕ, List, [], ◌∷◌, fold, map, min, ◌+◌, ◌-◌, ◌*◌, ◌/◌, ◌^◌, ℤ, pos, ◌+ℤ◌, int_lt, int_le, unsigned_abs, Bool, ◌&&◌, ◌==◌, if◌then◌else◌, slice_index_or}
+use Rattle.std.specs.Prelude.{Option, Some, None, ℕ, List, [], ◌∷◌, fold, map, min, ◌+◌, ◌-◌, ◌*◌, ◌/◌, ◌^◌, ℤ, pos, ◌+ℤ◌, int_lt, int_le, unsigned_abs, Bool, ◌&&◌, ◌==◌, if◌then◌else◌, slice_index_or}
 use Rattle.std.specs.List.{filter_map, find}
 use Rattle.std.specs.Option.{option_map}
 use Rattle.fx_math.specs.UnitVector.{unit}
@@ -101,6 +101,11 @@ blend_hit lighting ray b row = record {
   sum = blended 0 lighting ray b row ∷ blended 1 lighting ray b row ∷ blended 2 lighting ray b row ∷ [];
   rest = b.rest - weight b.rest row.opacity;
 }
+
+-- the same where a hit may have nothing to show
+abbrev pub blend_any : Lighting → Ray → Blend → Option HitRow → Blend
+blend_any lighting ray b None = b
+blend_any lighting ray b (Some row) = blend_hit lighting ray b row
 
 -- the byte of a colour component that is not negative: 255 from one on
 unfoldable pub to_byte : ℤ → ℕ

@@ -1,7 +1,8 @@
 ghost use Rattle.std.specs.Prelude.{◌≡◌, ◌+◌, ◌<◌, ◌≤◌, ◌++◌, All, IfOk, OnOk};
-ghost use Rattle.picture_model.specs.Limits.{IsLightingWithin, IsPrimitiveWithin, IsRayWithin, IsSceneWithin};
-ghost use Rattle.picture_model.specs.Pictures.{front, part, picture, pixel, pixels_in, row_of};
-ghost use Rattle.picture_model.specs.Shading.{hit_row, is_same_place, primitive_at, shade};
+ghost use Rattle.std.specs.Option.{ForSome};
+ghost use Rattle.picture_model.specs.Limits.{IsBlendWithin, IsHitRowWithin, IsLightingWithin, IsPrimitiveWithin, IsRayWithin, IsSceneWithin};
+ghost use Rattle.picture_model.specs.Pictures.{front, id_bytes, part, picture, pixel, pixels_in, row_of};
+ghost use Rattle.picture_model.specs.Shading.{blend_any, hit_row, is_same_place, primitive_at, shade};
 ghost use Rattle.picture_model.specs.Tiles.{tile_count};
 
 use crate::records::{Blend, Hit, HitRow, NO_ID, Plane, Primitive, Rect, Scene};
@@ -23,7 +24,12 @@ fn is_same_place(a: &Place, b: &Place) -> bool
 fn primitive_at(primitives: &[Primitive], place: &Place) -> Option<Primitive>
     ensures { result ≡ primitive_at primitives.now place.now }
 {
-    primitives.iter().find(|p| is_same_place(&p.place, place)).copied()
+    for primitive in primitives {
+        if is_same_place(&primitive.place, place) {
+            return Some(*primitive);
+        }
+    }
+    None
 }
 
 /// What shading needs of a hit.
@@ -31,12 +37,27 @@ fn hit_row(primitives: &[Primitive], hit: &Hit) -> Option<HitRow>
     ensures { result ≡ hit_row primitives.now hit.now }
 {
     let primitive = primitive_at(primitives, &hit.place)?;
+    let color = primitive.color;
     Some(HitRow {
         depth: hit.depth,
         shape: primitive.shape,
-        color: primitive.color,
+        color,
         opacity: primitive.opacity,
     })
+}
+
+/// The blend with one more hit, where that has anything to show.
+fn blend_any(lighting: &Lighting, ray: &Ray, row: Option<HitRow>, blend: &mut Blend)
+    requires lighting { IsLightingWithin lighting.now }
+    requires ray { IsRayWithin ray.now }
+    requires row { ForSome row IsHitRowWithin }
+    requires blend { IsBlendWithin blend.old }
+    ensures value { blend.new ≡ blend_any lighting.now ray.now blend.old row }
+    ensures size { IsBlendWithin blend.new }
+{
+    if let Some(row) = row {
+        blend_hit(lighting, ray, &row, blend);
+    }
 }
 
 /// The four colour bytes of what a ray shows.
@@ -53,9 +74,7 @@ pub fn shade(primitives: &[Primitive], lighting: &Lighting, ray: &Ray) -> [u8; 4
     let mut next = nearest(ray, primitives);
     for _ in primitives {
         let Some(hit) = next else { break };
-        if let Some(row) = hit_row(primitives, &hit) {
-            blend_hit(lighting, ray, &row, &mut blend);
-        }
+        blend_any(lighting, ray, hit_row(primitives, &hit), &mut blend);
         next = hit_after(ray, primitives, &hit);
     }
     finish_blend(lighting, &blend)
@@ -71,7 +90,15 @@ fn front(primitives: &[Primitive], ray: &Ray) -> Option<Primitive>
     primitive_at(primitives, &hit.place)
 }
 
+/// An id, lowest byte first, where there may be none.
+fn id_bytes(id: Option<u32>) -> [u8; 4]
+    ensures { result ≡ id_bytes id }
+{
+    id.unwrap_or(NO_ID).to_le_bytes()
+}
+
 /// The four bytes of pixel (`x`, `y`), counted from the lower left.
+#[tactic(auto, unfolding(crate::specs::Pictures::pixel))]
 pub fn pixel(scene: &Scene, plane: Plane, x: u32, y: u32) -> [u8; 4]
     requires scene { IsSceneWithin scene.now }
     requires column { x < scene.now.width }
@@ -80,17 +107,12 @@ pub fn pixel(scene: &Scene, plane: Plane, x: u32, y: u32) -> [u8; 4]
 {
     let ray = camera_ray(&scene.camera, scene.width, scene.height, x, y);
     let primitives = scene.primitives.as_slice();
-    if plane == Plane::Color {
-        return shade(primitives, &scene.lighting, &ray);
+    match plane {
+        Plane::Color => shade(primitives, &scene.lighting, &ray),
+        Plane::PrimitiveId => id_bytes(front(primitives, &ray).map(|p| p.place.prim)),
+        Plane::ObjectId => id_bytes(front(primitives, &ray).map(|p| p.object_id)),
+        Plane::InstanceId => id_bytes(front(primitives, &ray).map(|p| p.instance_id)),
     }
-    let front = front(primitives, &ray);
-    let id = match (front, plane) {
-        (None, _) => NO_ID,
-        (Some(primitive), Plane::ObjectId) => primitive.object_id,
-        (Some(primitive), Plane::InstanceId) => primitive.instance_id,
-        (Some(primitive), _) => primitive.place.prim,
-    };
-    id.to_le_bytes()
 }
 
 /// Adds the pixels of row `y` of a rectangle.
@@ -121,6 +143,7 @@ fn pixels_in(alloc: Global, scene: &Scene, plane: Plane, rect: &Rect) -> Result<
 }
 
 /// One picture of a scene: four bytes a pixel, by rows from the lower left. The only error is want of memory.
+#[tactic(auto, unfolding(crate::specs::Pictures::picture))]
 pub fn picture(alloc: Global, scene: &Scene, plane: Plane) -> Result<Vec<u8>, AllocError>
     requires { IsSceneWithin scene.now }
     ensures { IfOk result (λ bytes. bytes.items ≡ picture scene.now plane) }
@@ -135,6 +158,7 @@ pub fn picture(alloc: Global, scene: &Scene, plane: Plane) -> Result<Vec<u8>, Al
 }
 
 /// The part of a picture that a tile shows. The only error is want of memory.
+#[tactic(auto, unfolding(crate::specs::Pictures::part))]
 pub fn part(alloc: Global, scene: &Scene, plane: Plane, tile: u32) -> Result<Vec<u8>, AllocError>
     requires scene { IsSceneWithin scene.now }
     requires tile { tile < tile_count scene.now.width scene.now.height }
