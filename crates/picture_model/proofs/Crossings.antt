@@ -1,12 +1,11 @@
 -- Where a ray meets a triangle's plane: how large the numbers are, and what their negations are as the code computes them.
-use Rattle.std.proofs.Common.{◌≡◌, ℕ, ◌+◌, ◌*◌, ◌^◌, ◌<◌, ◌≤◌, Bool, true, ℤ, pos, neg_ℤ, ◌-ℤ◌, FitsSigned, to_z, of_z, unsigned_abs, arith, ap, ◌∙◌}
+use Rattle.std.proofs.Common.{◌≡◌, ℕ, ◌*◌, ◌^◌, ◌<◌, ◌≤◌, true, ℤ, pos, neg_ℤ, ◌-ℤ◌, FitsSigned, to_z, of_z, unsigned_abs, arith, ap, ◌∙◌}
 use Rattle.std.proofs.lemmas.Int.{ints}
 use Rattle.std.proofs.lemmas.Bool.Decides.{nat_tests}
 use Rattle.std.proofs.Math.Nat.{mul-le-mul}
 use mir.Syntax.{w128}
 use Rattle.picture_model.specs.declared.depths.Crossing.{Crossing}
-use Rattle.picture_model.specs.Depths.{is_crossed, turned}
-use Rattle.picture_model.specs.Limits.{IsCrossingWithin}
+use Rattle.picture_model.specs.Depths.{is_crossed}
 
 pub product_within : (a b m n k : ℕ) → a ≤ m → b ≤ n → m * n ≤ k → a * b ≤ k
 product_within a b m n k p q h = let r = mul-le-mul p q in omega arith

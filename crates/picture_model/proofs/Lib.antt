@@ -6,3 +6,4 @@ pub mod Nearness
 pub mod Numbers
 pub mod PixelRows
 pub mod Spheres
+pub mod Tilings

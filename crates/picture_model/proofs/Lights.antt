@@ -1,6 +1,5 @@
 -- The light of some lamps, lamp by lamp.
-use Rattle.std.proofs.Common.{◌≡◌, ℕ, zero, suc, ◌+◌, ◌≤◌, List, [], ◌∷◌, Some, drop, length, ℤ, pos, ◌+ℤ◌, refl, ap, add-one, arith}
-use Rattle.std.proofs.lemmas.Int.{ints}
+use Rattle.std.proofs.Common.{◌≡◌, ℕ, zero, suc, ◌+◌, ◌≤◌, List, [], ◌∷◌, Some, drop, length, pos, ◌+ℤ◌, refl, add-one}
 use Rattle.std.proofs.lemmas.List.{drop_all}
 use Rattle.std.specs.List.{slice_get}
 use Rattle.fx_math.specs.declared.scene.LightRow.{LightRow}

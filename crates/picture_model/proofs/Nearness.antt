@@ -1,9 +1,9 @@
 -- Every hit has a depth number within the greatest one, and what shading sees of it is within the limits.
-use Rattle.std.proofs.Common.{◌≡◌, ℕ, zero, suc, ◌+◌, ◌/◌, ◌*◌, ◌^◌, ◌<◌, ◌≤◌, Bool, true, false, ◌&&◌, cond, List, [], ◌∷◌, All, Option, Some, None, length, get_or, fold, arith, refl, ap, sym, subst, ◌∙◌, pos, ◌≤ℤ◌, leb}
+use Rattle.std.proofs.Common.{◌≡◌, ℕ, zero, suc, ◌+◌, ◌^◌, ◌<◌, ◌≤◌, Bool, true, false, ◌&&◌, cond, List, [], ◌∷◌, All, Option, Some, None, length, get_or, fold, arith, refl, sym, subst, ◌∙◌, leb}
 use Rattle.std.proofs.lemmas.Bool.Decides.{nat_tests}
 use Rattle.std.proofs.lemmas.Int.{ints}
 use Rattle.std.proofs.lemmas.List.Elements.{All-filter}
-use Rattle.std.specs.List.{cons_option, filter, filter_map, find}
+use Rattle.std.specs.List.{cons_option, find}
 use Rattle.std.specs.Option.{ForSome, option_map}
 use Rattle.fx_math.specs.declared.vectors.Ray.{Ray}
 use Rattle.fx_math.specs.declared.scene.Lighting.{Lighting}
@@ -19,7 +19,7 @@ use Rattle.picture_model.specs.declared.records.Primitive.{Primitive}
 use Rattle.picture_model.specs.Depths.{crossing, crossing_depth, depth, first_from, is_crossed, is_in_ball, sphere_depth, turned}
 use Rattle.picture_model.specs.Hits.{all_hits, hit_after, is_nearer, nearer, nearest, nearest_of}
 use Rattle.picture_model.specs.Limits.{IsBlendWithin, IsHitRowWithin, IsPrimitiveWithin}
-use Rattle.picture_model.specs.Shading.{blend_any, blend_hit, hit_row, placed, primitive_at, unblended}
+use Rattle.picture_model.specs.Shading.{blend_any, blend_hit, hit_row, primitive_at, unblended}
 
 -- ---- facts on each element
 all_nil : {X : Type 0} (P : X → Type 0) → All P []

@@ -1,6 +1,6 @@
 -- Along a ray the squared distance to a centre falls up to some point and rises from there on. So the first point that is in the ball,
 -- or whose successor is no nearer, tells whether and where the ray enters the ball.
-use Rattle.std.proofs.Common.{◌≡◌, ℕ, zero, suc, ◌+◌, ◌*◌, ◌^◌, ◌<◌, ◌≤◌, ℤ, pos, negsuc, ◌+ℤ◌, ◌*ℤ◌, ◌≤ℤ◌, int_le, Bool, true, false, ◌||◌, nat_lt, ◌-◌, Option, Some, None, arith, ap, sym, ◌∙◌, refl, ◌⊎◌, inl, inr}
+use Rattle.std.proofs.Common.{◌≡◌, ℕ, zero, suc, ◌+◌, ◌^◌, ◌<◌, ◌≤◌, ℤ, pos, negsuc, ◌+ℤ◌, ◌*ℤ◌, ◌≤ℤ◌, int_le, Bool, true, false, ◌||◌, nat_lt, ◌-◌, Some, None, arith, ap, sym, ◌∙◌, refl, ◌⊎◌, inl, inr}
 use Rattle.std.proofs.lemmas.Int.{ints}
 use Rattle.std.proofs.lemmas.Bool.Decides.{nat_tests}
 use Rattle.fx_math.proofs.Rings.{*ℤ-+ℤ, dot-add, dot_comm}
@@ -153,8 +153,8 @@ pub first_from-found : (test : ℕ → Bool) (n k s : ℕ) → k ≤ s → s < k
 first_from-found test zero k s l m before h = absurd (omega arith)
 first_from-found test (suc n) k s l m before h =
     elim (below_or_at k s l) [
-      inl lt ↦ found_later test n k (before k lt) ∙ first_from-found test n (suc k) s (omega arith) (omega arith) before h
-    | inr e ↦ found_here test n k (rw e h) ∙ ap Some e
+      | inl lt ↦ found_later test n k (before k lt) ∙ first_from-found test n (suc k) s (omega arith) (omega arith) before h
+      | inr e ↦ found_here test n k (rw e h) ∙ ap Some e
     ]
 
 pub first_from-none : (test : ℕ → Bool) (n k : ℕ) → ((j : ℕ) → j < k + n → test j ≡ false) → first_from test n k ≡ None
@@ -204,12 +204,13 @@ sphere_depth-none ray centre radius s before near settled o =
     behind j lt l =
         let there : s + (j - s) ≡ j = omega arith in
         rw there at (is_in_ball-after ray centre radius s (j - s) (settled lt) o)
+
     outside : (j : ℕ) → j < 0 + (2 ^ 32 + 1) → is_in_ball ray centre radius j ≡ false
     outside j l =
         elim (le_or_below j s) [
-          inl lt ↦ is_in_ball-unsettled ray centre radius j (before j lt)
-        | inr ge ↦ elim (below_or_at s j ge) [
-            inl lt ↦ behind j (omega arith) ge
-          | inr e ↦ rw (← e) o
+          | inl lt ↦ is_in_ball-unsettled ray centre radius j (before j lt)
+          | inr ge ↦ elim (below_or_at s j ge) [
+            | inl lt ↦ behind j (omega arith) ge
+            | inr e ↦ rw (← e) o
           ]
         ]

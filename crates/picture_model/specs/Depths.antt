@@ -72,7 +72,7 @@ IsDepth ray (Sphere centre radius) s = IsEnteredAt ray centre radius s
 -- the crossing lies in the triangle and not behind the ray's origin, as a test
 unfoldable pub is_crossed : Crossing → Bool
 is_crossed c =
-  int_lt (pos 0) c.det && int_le (pos 0) c.t && int_le (pos 0) c.p && int_le (pos 0) c.q && int_le (c.p +ℤ c.q) c.det
+    int_lt (pos 0) c.det && int_le (pos 0) c.t && int_le (pos 0) c.p && int_le (pos 0) c.q && int_le (c.p +ℤ c.q) c.det
 
 -- floor (65536 t), where it is not too far
 unfoldable pub crossing_depth : Crossing → Option ℕ

@@ -3,7 +3,6 @@ use Rattle.std.specs.Prelude.{ℕ, ℤ, pos, ◌*ℤ◌}
 use Rattle.std.specs.Int.{int_div_euclid}
 
 infixl 7 ◌/ℤ◌
-
 -- a / n, rounded down
 abbrev pub ◌/ℤ◌ : ℤ → ℕ → ℤ
 a /ℤ n = int_div_euclid a (pos n)

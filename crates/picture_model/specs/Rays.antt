@@ -37,8 +37,8 @@ in_window axes length aspect unit w h x y = across axes (offset (length *ℤ asp
 -- position through a window at distance one that is two tangents high
 unfoldable pub camera_ray : CameraRow → ℕ → ℕ → ℕ → ℕ → Ray
 camera_ray (Orthographic position direction up aspect height) w h x y =
-  let axes = axes_of direction up in
-  record { o = add position (in_window axes height aspect 2 w h x y); d = axes.forward }
+    let axes = axes_of direction up in
+    record { o = add position (in_window axes height aspect 2 w h x y); d = axes.forward }
 camera_ray (Perspective position direction up aspect tangent) w h x y =
-  let axes = axes_of direction up in
-  record { o = position; d = add axes.forward (in_window axes tangent aspect 1 w h x y) }
+    let axes = axes_of direction up in
+    record { o = position; d = add axes.forward (in_window axes tangent aspect 1 w h x y) }

@@ -45,8 +45,8 @@ towards (Point position color intensity) point = unit (sub position point)
 -- what a point light of this intensity shines with from this far: it falls with the square of the distance
 unfoldable pub faded : ℤ → Vec3 → ℤ
 faded intensity way =
-  let squared = unsigned_abs (dot way way) in
-  if squared == 0 then pos 0 else pos (min (unsigned_abs intensity * 2 ^ 32 / squared) (2 ^ 31 - 1))
+    let squared = unsigned_abs (dot way way) in
+    if squared == 0 then pos 0 else pos (min (unsigned_abs intensity * 2 ^ 32 / squared) (2 ^ 31 - 1))
 
 -- how strongly a light shines at a point
 unfoldable pub irradiance_at : LightRow → Vec3 → ℤ
@@ -65,7 +65,7 @@ cosine normal direction = if int_le (dot normal direction) (pos 0) then pos 0 el
 -- component i of the light of one lamp that a surface with this normal takes in at a point
 unfoldable pub share_of : ℕ → Vec3 → Vec3 → LightRow → ℤ
 share_of i normal point light =
-  product (product (component (color_of light) i) (irradiance_at light point)) (cosine normal (towards light point))
+    product (product (component (color_of light) i) (irradiance_at light point)) (cosine normal (towards light point))
 
 -- component i of the light of some lamps
 abbrev pub shares : ℕ → Vec3 → Vec3 → List LightRow → ℤ
@@ -75,13 +75,13 @@ shares i normal point (light ∷ lights) = share_of i normal point light +ℤ sh
 -- component i of all light that such a surface takes in: what is everywhere, and that of all lamps
 unfoldable pub incoming : ℕ → Lighting → Vec3 → Vec3 → ℤ
 incoming i lighting normal point =
-  product (component lighting.ambient_color i) lighting.ambient_radiance +ℤ shares i normal point lighting.lights
+    product (component lighting.ambient_color i) lighting.ambient_radiance +ℤ shares i normal point lighting.lights
 
 -- component i of the light that comes back from a hit
 unfoldable pub radiance : ℕ → Lighting → Ray → HitRow → ℤ
 radiance i lighting ray row =
-  let point = point_at ray row.depth in
-  product (component row.color i) (incoming i lighting (facing ray (normal_of row.shape point)) point)
+    let point = point_at ray row.depth in
+    product (component row.color i) (incoming i lighting (facing ray (normal_of row.shape point)) point)
 
 -- before the first hit no light is gathered, and all that lies behind still shows
 unfoldable pub unblended : Blend
@@ -118,7 +118,7 @@ shown i lighting b = component b.sum i +ℤ product (component lighting.backgrou
 -- red, green, blue and alpha
 unfoldable pub finish_blend : Lighting → Blend → List ℕ
 finish_blend lighting b =
-  to_byte (shown 0 lighting b) ∷ to_byte (shown 1 lighting b) ∷ to_byte (shown 2 lighting b) ∷ to_byte (pos (65536 - b.rest)) ∷ []
+    to_byte (shown 0 lighting b) ∷ to_byte (shown 1 lighting b) ∷ to_byte (shown 2 lighting b) ∷ to_byte (pos (65536 - b.rest)) ∷ []
 
 -- the same place
 unfoldable pub is_same_place : Place → Place → Bool

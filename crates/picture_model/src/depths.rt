@@ -88,7 +88,11 @@ fn crossing_depth(c: &Crossing) -> Option<u64>
         return None;
     }
     let depth = 65536 * c.t.unsigned_abs() / c.det.unsigned_abs();
-    if depth <= FARTHEST as u128 { Some(depth as u64) } else { None }
+    if depth <= FARTHEST as u128 {
+        Some(depth as u64)
+    } else {
+        None
+    }
 }
 
 /// 65536 times the way from the centre to the ray's point at the depth number `s`.
@@ -132,7 +136,8 @@ fn is_settled(ray: &Ray, centre: Vec3, radius: i64, s: u64) -> bool
     requires near { s ≤ farthest }
     ensures { result ≡ is_settled ray.now centre radius s }
 {
-    is_in_ball(ray, centre, radius, s) || distance_at(ray, centre, s) <= distance_at(ray, centre, s + 1)
+    is_in_ball(ray, centre, radius, s)
+        || distance_at(ray, centre, s) <= distance_at(ray, centre, s + 1)
 }
 
 fn sphere_depth(ray: &Ray, centre: Vec3, radius: i64) -> Option<u64>
@@ -150,7 +155,11 @@ fn sphere_depth(ray: &Ray, centre: Vec3, radius: i64) -> Option<u64>
             low = middle + 1;
         }
     }
-    if is_in_ball(ray, centre, radius, low) { Some(low) } else { None }
+    if is_in_ball(ray, centre, radius, low) {
+        Some(low)
+    } else {
+        None
+    }
 }
 
 /// The depth number of the ray's hit with the shape, if it is hit.

@@ -10,9 +10,6 @@ mod search;
 mod shading;
 mod tiles;
 
-#[cfg(test)]
-mod tests;
-
 pub use depths::{Crossing, depth};
 pub use pictures::{part, picture, pixel, shade};
 pub use rays::{Axes, camera_ray};

@@ -5,8 +5,8 @@ ghost use Rattle.picture_model.specs.Pictures.{front, id_bytes, part, picture, p
 ghost use Rattle.picture_model.specs.Shading.{blend_any, hit_row, is_same_place, primitive_at, shade};
 ghost use Rattle.picture_model.specs.Tiles.{tile_count};
 
-use crate::records::{Blend, Hit, HitRow, NO_ID, Plane, Primitive, Rect, Scene};
 use crate::rays::camera_ray;
+use crate::records::{Blend, Hit, HitRow, NO_ID, Plane, Primitive, Rect, Scene};
 use crate::search::{hit_after, nearest};
 use crate::shading::{blend_hit, finish_blend};
 use crate::tiles::tile_rect;
@@ -116,7 +116,13 @@ pub fn pixel(scene: &Scene, plane: Plane, x: u32, y: u32) -> [u8; 4]
 }
 
 /// Adds the pixels of row `y` of a rectangle.
-fn push_row(out: &mut Vec<u8>, scene: &Scene, plane: Plane, rect: &Rect, y: u32) -> Result<(), AllocError>
+fn push_row(
+    out: &mut Vec<u8>,
+    scene: &Scene,
+    plane: Plane,
+    rect: &Rect,
+    y: u32,
+) -> Result<(), AllocError>
     requires scene { IsSceneWithin scene.now }
     requires column { rect.now.x0 + rect.now.w ≤ scene.now.width }
     requires row { y < scene.now.height }

@@ -74,7 +74,16 @@ fn across(axes: &Axes, sx: i64, sy: i64) -> Vec3
 
 /// The way from the middle of a window to pixel (`x`, `y`): the window reaches `length / unit` up and down, and times the aspect
 /// sideways.
-fn in_window(axes: &Axes, length: i32, aspect: i32, unit: u32, w: u32, h: u32, x: u32, y: u32) -> Vec3
+fn in_window(
+    axes: &Axes,
+    length: i32,
+    aspect: i32,
+    unit: u32,
+    w: u32,
+    h: u32,
+    x: u32,
+    y: u32,
+) -> Vec3
     requires axes { AreAxesWithin axes.now }
     requires length { IsBetween 1 (2 ^ 26) length }
     requires aspect { IsBetween 1 (2 ^ 20) aspect }
@@ -127,7 +136,10 @@ pub fn camera_ray(camera: &CameraRow, w: u32, h: u32, x: u32, y: u32) -> Ray
             let axes = axes_of(direction, up);
             Ray {
                 o: position,
-                d: add(axes.forward, in_window(&axes, tan_half_fovy, aspect, 1, w, h, x, y)),
+                d: add(
+                    axes.forward,
+                    in_window(&axes, tan_half_fovy, aspect, 1, w, h, x, y),
+                ),
             }
         }
     }

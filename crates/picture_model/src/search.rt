@@ -32,7 +32,11 @@ pub fn nearer(a: Option<Hit>, b: Option<Hit>) -> Option<Hit>
     match (a, b) {
         (None, _) => b,
         (_, None) => a,
-        (Some(first), Some(second)) => Some(if is_nearer(&second, &first) { second } else { first }),
+        (Some(first), Some(second)) => Some(if is_nearer(&second, &first) {
+            second
+        } else {
+            first
+        }),
     }
 }
 

@@ -5,7 +5,9 @@ ghost use Rattle.picture_model.specs.Limits.{IsBetween, IsBlendWithin, IsColor, 
 ghost use Rattle.picture_model.specs.Shading.{blend_hit, blended, color_of, component, cosine, faded, facing, finish_blend, incoming, irradiance_at, normal_of, point_at, radiance, share_of, shown, to_byte, towards, weight};
 
 use crate::records::{Blend, HitRow};
-use fx_math::{LightRow, Lighting, Ray, Shape, Vec3, add, cross, dot, neg, scaled_down, sub, times, unit};
+use fx_math::{
+    LightRow, Lighting, Ray, Shape, Vec3, add, cross, dot, neg, scaled_down, sub, times, unit,
+};
 
 /// The product of two numbers that are not negative and count 1/65536, rounded down.
 fn product(a: i128, b: i128) -> i128
@@ -59,7 +61,11 @@ fn facing(ray: &Ray, normal: Vec3) -> Vec3
     ensures value { result ≡ facing ray.now normal }
     ensures size { reach result ≤ 65536 }
 {
-    if dot(normal, ray.d) > 0 { neg(normal) } else { normal }
+    if dot(normal, ray.d) > 0 {
+        neg(normal)
+    } else {
+        normal
+    }
 }
 
 /// The unit direction from a point to a light.
@@ -100,7 +106,9 @@ fn irradiance_at(light: &LightRow, point: Vec3) -> i128
     match *light {
         LightRow::Directional { irradiance, .. } => irradiance as i128,
         LightRow::Point {
-            position, intensity, ..
+            position,
+            intensity,
+            ..
         } => faded(intensity, sub(position, point)),
     }
 }
@@ -151,7 +159,10 @@ fn incoming(i: usize, lighting: &Lighting, normal: Vec3, point: Vec3) -> i128
     ensures value { result ≡ incoming i lighting.now normal point }
     ensures size { IsBetween 0 (2 ^ 57) result }
 {
-    let mut sum = product(component(&lighting.ambient_color, i), lighting.ambient_radiance as i128);
+    let mut sum = product(
+        component(&lighting.ambient_color, i),
+        lighting.ambient_radiance as i128,
+    );
     for k in 0..lighting.lights.len() {
         sum += share_of(i, normal, point, lighting.lights.get(k));
     }
@@ -169,7 +180,10 @@ fn radiance(i: usize, lighting: &Lighting, ray: &Ray, row: &HitRow) -> i128
 {
     let point = point_at(ray, row.depth);
     let normal = facing(ray, normal_of(&row.shape, point));
-    product(component(&row.color, i), incoming(i, lighting, normal, point))
+    product(
+        component(&row.color, i),
+        incoming(i, lighting, normal, point),
+    )
 }
 
 /// The share of what still shows that a hit takes for itself.

@@ -1,4 +1,4 @@
-ghost use Rattle.std.specs.Prelude.{◌≡◌, ℕ, ◌<◌, ◌≤◌};
+ghost use Rattle.std.specs.Prelude.{◌≡◌, ℕ, ◌+◌, ◌<◌, ◌≤◌};
 ghost use Rattle.picture_model.specs.Limits.{IsSide};
 ghost use Rattle.picture_model.specs.Tiles.{tiles_over, tile_count, tile_rect, IsIn};
 
@@ -28,7 +28,9 @@ pub fn tile_count(w: u32, h: u32) -> u32
 #[tactic(auto, unfolding(crate::specs::Tiles::tile_rect))]
 pub fn tile_rect(w: u32, h: u32, tile: u32) -> Rect
     requires { tile < tile_count w h }
-    ensures { result ≡ tile_rect w h tile }
+    ensures value { result ≡ tile_rect w h tile }
+    ensures columns { result.x0 + result.w ≤ w }
+    ensures rows { result.y0 + result.h ≤ h }
 {
     let across = tiles_over(w);
     let x0 = SIDE * (tile % across);

@@ -1,5 +1,4 @@
-use Rattle.std.proofs.Common.{◌≡◌, ◌∙◌, sym, true, arith, ap, unsigned_abs}
-use Rattle.picture_model.specs.Depths.{is_crossed}
+use Rattle.std.proofs.Common.{◌∙◌, sym}
 use Rattle.picture_model.proofs.Crossings.{is_crossed-det, kept}
 use Rattle.picture_model.proofs.depths.crossing_depth.Goals as goal
 

@@ -1,5 +1,5 @@
-use Rattle.std.proofs.Common.{◌≡◌, ◌∙◌, ap, neg_ℤ, arith, rules}
-use Rattle.fx_math.specs.Vec3.{cross, dot, reach, sub}
+use Rattle.std.proofs.Common.{◌≡◌, ◌∙◌, ap, neg_ℤ}
+use Rattle.fx_math.specs.Vec3.{cross, dot, sub}
 use Rattle.picture_model.proofs.Crossings.{abs-neg, kept, negated, negated_fits, same_crossing}
 use Rattle.picture_model.specs.Depths.{crossing}
 use Rattle.picture_model.proofs.depths.crossing_of.Goals as goal

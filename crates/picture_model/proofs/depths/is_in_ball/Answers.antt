@@ -1,9 +1,9 @@
-use Rattle.std.proofs.Common.{◌≡◌, ◌*◌, ◌^◌, ◌≤◌, pos, ◌*ℤ◌, unsigned_abs, FitsSigned, arith, refl}
+use Rattle.std.proofs.Common.{◌^◌, ◌≤◌, pos, ◌*ℤ◌, unsigned_abs, FitsSigned, arith}
 use Rattle.std.proofs.lemmas.Int.{ints, to_z-of_z}
 use Rattle.fx_math.proofs.Sizes.{abs-mul_le}
 use Rattle.picture_model.proofs.Numbers.{read_wide}
 use Rattle.picture_model.specs.Depths.{is_in_ball}
-use mir.Syntax.{w64, w128}
+use mir.Syntax.{w128}
 use Rattle.picture_model.proofs.depths.is_in_ball.Goals as goal
 
 pub returns : goal.returns

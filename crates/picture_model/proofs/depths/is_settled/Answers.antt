@@ -1,4 +1,4 @@
-use Rattle.std.proofs.Common.{◌≡◌, arith, refl}
+use Rattle.std.proofs.Common.{refl}
 use Rattle.std.proofs.lemmas.Int.{to_z-of_z}
 use Rattle.picture_model.proofs.Numbers.{read_wide}
 use Rattle.picture_model.specs.Depths.{is_settled}

@@ -1,7 +1,6 @@
-use Rattle.std.proofs.Common.{◌≡◌, ◌+◌, ◌/◌, ◌^◌, ◌<◌, ◌≤◌, false, arith, ◌∙◌, sym}
+use Rattle.std.proofs.Common.{◌≡◌, ◌+◌, ◌/◌, arith, ◌∙◌, sym}
 use Rattle.std.proofs.lemmas.Int.{to_z-of_z}
 use Rattle.picture_model.proofs.Spheres.{is_settled-before, sphere_depth-found, sphere_depth-none}
-use Rattle.picture_model.specs.Depths.{is_settled}
 use Rattle.picture_model.proofs.depths.sphere_depth.Goals as goal
 
 pub loop-low-preserved : goal.loop-low-preserved

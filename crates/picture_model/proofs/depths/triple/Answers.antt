@@ -1,5 +1,5 @@
-use Rattle.std.proofs.Common.{◌≡◌, ◌+◌, ◌*◌, ◌^◌, ◌≤◌, ap, arith}
-use Rattle.fx_math.specs.Vec3.{cross, dot, reach}
+use Rattle.std.proofs.Common.{◌+◌, ◌^◌, arith}
+use Rattle.fx_math.specs.Vec3.{reach}
 use Rattle.picture_model.proofs.Crossings.{dot_within, kept, product_within}
 use Rattle.picture_model.proofs.depths.triple.Goals as goal
 

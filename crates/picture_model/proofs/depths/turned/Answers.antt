@@ -1,4 +1,4 @@
-use Rattle.std.proofs.Common.{◌≡◌, Bool, true, ℤ, pos, arith, int_lt}
+use Rattle.std.proofs.Common.{◌≡◌, true, pos, arith, int_lt}
 use Rattle.std.proofs.lemmas.Int.{ints}
 use Rattle.picture_model.proofs.Crossings.{negated, same_crossing}
 use Rattle.picture_model.specs.Depths.{turned}

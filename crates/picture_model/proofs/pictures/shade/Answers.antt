@@ -37,8 +37,8 @@ pub returns : goal.returns
 unfolding shade
 returns c =
     let none : hits_from c.args.ray.now (placed c.args.primitives.now) (length c.args.primitives.now - c.loop.index) c.loop.next ≡ [] =
-      elim c.loop-test.branch [
-        else-loop-test w ↦ hits_from-end c.args.ray.now (placed c.args.primitives.now) (length c.args.primitives.now) c.loop.index c.loop.next w.loop-test.false
+    elim c.loop-test.branch [
+      | else-loop-test w ↦ hits_from-end c.args.ray.now (placed c.args.primitives.now) (length c.args.primitives.now) c.loop.index c.loop.next w.loop-test.false
       | then-loop-test+in_default w ↦ rw w.in_default.is (hits_from-none c.args.ray.now (placed c.args.primitives.now) _)
-      ] in
+    ] in
     c.finish_blend.ensures ∙ ap (finish_blend c.args.lighting.now) (rw none at c.loop.invariant.value)

@@ -10,7 +10,7 @@ use Rattle.picture_model.proofs.pictures.shade.Given as goal
 abbrev pub invariant-loop : goal.invariant-loop
 invariant-loop l = record {
   value : fold (blend_hit l.lighting l.ray) l.blend (filter_map (hit_row l.primitives) (hits_from l.ray (placed l.primitives) (length l.primitives - l.index) l.next))
-    ≡ fold (blend_hit l.lighting l.ray) unblended (hit_rows l.primitives l.ray);
+      ≡ fold (blend_hit l.lighting l.ray) unblended (hit_rows l.primitives l.ray);
   size : IsBlendWithin l.blend;
   near : ForSome l.next (λ h. h.depth ≤ 2 ^ 32);
 }

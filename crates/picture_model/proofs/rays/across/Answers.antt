@@ -1,4 +1,4 @@
-use Rattle.std.proofs.Common.{◌≡◌, ◌+◌, ◌*◌, ◌≤◌, unsigned_abs, ap, arith}
+use Rattle.std.proofs.Common.{◌*◌, unsigned_abs, ap, arith}
 use Rattle.std.proofs.lemmas.Int.{to_z-of_z}
 use Rattle.fx_math.specs.Vec3.{reach}
 use Rattle.picture_model.proofs.Numbers.{product_within}

@@ -1,5 +1,4 @@
-use Rattle.std.proofs.Common.{◌≡◌, ◌+◌, ◌*◌, ◌/◌, ◌^◌, ◌≤◌, unsigned_abs, ap, arith}
-use Rattle.fx_math.specs.Vec3.{reach}
+use Rattle.std.proofs.Common.{◌^◌, unsigned_abs, ap, arith}
 use Rattle.picture_model.proofs.Numbers.{abs-between, read_short}
 use Rattle.picture_model.specs.Rays.{camera_ray}
 use Rattle.picture_model.proofs.rays.camera_ray.Goals as goal

@@ -1,4 +1,4 @@
-use Rattle.std.proofs.Common.{◌≡◌, ◌+◌, ◌*◌, ◌/◌, ◌^◌, ◌≤◌, ◌*ℤ◌, ◌∙◌, unsigned_abs, ap, arith}
+use Rattle.std.proofs.Common.{◌*◌, ◌^◌, ◌≤◌, unsigned_abs, ap, arith}
 use Rattle.std.proofs.Math.Nat.{div-le_self}
 use Rattle.fx_math.proofs.Sizes.{abs-mul_le}
 use Rattle.picture_model.proofs.Numbers.{abs-between, read_cast, read_long, read_short, window_quotient}
@@ -12,7 +12,7 @@ across-requires-clause-right c =
     let length = read_short c.args.length (omega arith) in
     let aspect = read_short c.args.aspect (omega arith) in
     let wide : unsigned_abs c.widened.result ≤ unsigned_abs c.args.length * 2 ^ 20 =
-      rw (rw (length, aspect) at c.widened.ensures) (abs-mul_le c.args.length c.args.aspect (unsigned_abs c.args.length) (2 ^ 20) (omega arith) aspect_size) in
+    rw (rw (length, aspect) at c.widened.ensures) (abs-mul_le c.args.length c.args.aspect (unsigned_abs c.args.length) (2 ^ 20) (omega arith) aspect_size) in
     let quotient = window_quotient (unsigned_abs c.widened.result) (unsigned_abs c.args.length) c.args.unit c.requires.unit_least wide in
     let smaller = div-le_self (16 * unsigned_abs c.args.length) c.args.unit in
     let size = rw (read_long c.widened.result c.widened.type_inv) at c.offset-right.ensures.size in
@@ -38,7 +38,7 @@ returns-clause-size c =
     let length = read_short c.args.length (omega arith) in
     let aspect = read_short c.args.aspect (omega arith) in
     let wide : unsigned_abs c.widened.result ≤ unsigned_abs c.args.length * 2 ^ 20 =
-      rw (rw (length, aspect) at c.widened.ensures) (abs-mul_le c.args.length c.args.aspect (unsigned_abs c.args.length) (2 ^ 20) (omega arith) aspect_size) in
+    rw (rw (length, aspect) at c.widened.ensures) (abs-mul_le c.args.length c.args.aspect (unsigned_abs c.args.length) (2 ^ 20) (omega arith) aspect_size) in
     let quotient = window_quotient (unsigned_abs c.widened.result) (unsigned_abs c.args.length) c.args.unit c.requires.unit_least wide in
     let right_size = rw (read_long c.widened.result c.widened.type_inv) at c.offset-right.ensures.size in
     let up_size = rw (read_cast c.args.length (omega arith)) at c.offset-up.ensures.size in

@@ -1,10 +1,9 @@
-use Rattle.std.proofs.Common.{◌≡◌, ◌+◌, ◌*◌, ◌/◌, ◌^◌, ◌<◌, ◌≤◌, ◌∙◌, pos, ◌*ℤ◌, unsigned_abs, ap, arith}
-use Rattle.std.proofs.lemmas.Int.{ints}
+use Rattle.std.proofs.Common.{◌*◌, ◌^◌, ◌≤◌, ◌∙◌, pos, ◌*ℤ◌, unsigned_abs, ap, arith}
 use Rattle.std.proofs.Math.Nat.{mul-le-mul}
 use Rattle.std.specs.Int.{int_div_euclid}
 use Rattle.fx_math.proofs.Sizes.{abs-mul_le}
 use Rattle.picture_model.proofs.Numbers.{abs-div_euclid, div-mono, div-product, product_within, read_long, read_long_product, read_span}
-use Rattle.picture_model.specs.Rays.{off_middle, offset}
+use Rattle.picture_model.specs.Rays.{offset}
 use Rattle.picture_model.proofs.rays.offset.Goals as goal
 
 pub div_euclid-requires-clause-nonzero : goal.div_euclid-requires-clause-nonzero

@@ -1,4 +1,4 @@
-use Rattle.std.proofs.Common.{sym, ◌∙◌, ap, rules, arith}
+use Rattle.std.proofs.Common.{sym, ◌∙◌, ap, arith}
 use Rattle.std.proofs.lemmas.List.Elements.{All-get_or}
 use Rattle.picture_model.proofs.HitOrder.{filter-filter_map, filter_map-map, nearest_of-step, nearest_of-end}
 use Rattle.picture_model.specs.Hits.{behind, hit_with, hit_after, nearest_of}

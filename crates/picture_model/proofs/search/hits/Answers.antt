@@ -1,6 +1,5 @@
-use Rattle.std.proofs.Common.{◌≡◌, ◌++◌, [], ◌∷◌, ◌∙◌, ap, sym, append_assoc, length}
+use Rattle.std.proofs.Common.{◌++◌, [], ◌∷◌, ◌∙◌, ap, sym, append_assoc, length}
 use Rattle.picture_model.proofs.HitLists.{hits_from-end, hits_from-none, hits_from-some, hits_from-start, without_rest}
-use Rattle.picture_model.specs.Hits.{hits_from}
 use Rattle.picture_model.specs.Shading.{placed}
 use Rattle.picture_model.proofs.search.hits.Goals as goal
 use Rattle.picture_model.proofs.search.hits.Goals.{else-loop-test, then-loop-test+in_default}
@@ -18,7 +17,7 @@ loop-preserved c =
 pub returns : goal.returns
 returns c =
     without_rest c.loop.found.items _ (elim c.loop-test.branch [
-      else-loop-test w ↦ hits_from-end c.args.ray.now (placed c.args.primitives.now) (length c.args.primitives.now) c.loop.index c.loop.next w.loop-test.false
-    | then-loop-test+in_default w ↦ rw w.in_default.is (hits_from-none c.args.ray.now (placed c.args.primitives.now) _)
+      | else-loop-test w ↦ hits_from-end c.args.ray.now (placed c.args.primitives.now) (length c.args.primitives.now) c.loop.index c.loop.next w.loop-test.false
+      | then-loop-test+in_default w ↦ rw w.in_default.is (hits_from-none c.args.ray.now (placed c.args.primitives.now) _)
     ])
     ∙ c.loop.invariant

@@ -1,7 +1,7 @@
-use Rattle.std.proofs.Common.{◌≡◌, ◌+◌, ◌-◌, ◌*◌, ◌^◌, ◌<◌, ◌≤◌, pos, ◌+ℤ◌, unsigned_abs, FitsSigned, arith, rules, ap, ◌∙◌}
+use Rattle.std.proofs.Common.{◌*◌, ◌^◌, ◌+ℤ◌, unsigned_abs, FitsSigned, arith, rules, ap, ◌∙◌}
 use Rattle.std.proofs.lemmas.Int.{ints, to_z-of_z}
 use Rattle.picture_model.proofs.Numbers.{abs-between, product_within, read_wide, read_wide_count, read_wide_sum}
-use Rattle.picture_model.specs.Shading.{blended, component, weight}
+use Rattle.picture_model.specs.Shading.{blended, component}
 use mir.Syntax.{w32}
 use Rattle.picture_model.proofs.shading.blended.Goals as goal
 

@@ -1,4 +1,4 @@
-use Rattle.std.proofs.Common.{◌≡◌, pos, int_lt, true, false, refl, ◌∙◌}
+use Rattle.std.proofs.Common.{◌≡◌, pos, int_lt, true, false, refl}
 use Rattle.fx_math.specs.Vec3.{dot}
 use Rattle.picture_model.proofs.Numbers.{read_wide}
 use Rattle.picture_model.specs.Shading.{facing}

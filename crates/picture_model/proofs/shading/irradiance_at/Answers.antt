@@ -1,4 +1,4 @@
-use Rattle.std.proofs.Common.{◌≡◌, FitsSigned, arith, rules, refl}
+use Rattle.std.proofs.Common.{FitsSigned, arith, rules, refl}
 use Rattle.std.proofs.lemmas.Int.{ints, to_z-of_z}
 use Rattle.picture_model.proofs.Numbers.{read_wide}
 use Rattle.picture_model.specs.Shading.{irradiance_at}

@@ -1,4 +1,4 @@
-use Rattle.std.proofs.Common.{◌≡◌, pos, arith}
+use Rattle.std.proofs.Common.{arith}
 use Rattle.picture_model.proofs.Numbers.{read_count}
 use Rattle.picture_model.specs.Shading.{point_at}
 use Rattle.picture_model.proofs.shading.point_at.Goals as goal

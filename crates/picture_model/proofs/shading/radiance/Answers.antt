@@ -1,4 +1,4 @@
-use Rattle.std.proofs.Common.{◌≡◌, ◌*◌, ◌^◌, ◌≤◌, unsigned_abs, arith}
+use Rattle.std.proofs.Common.{◌^◌, unsigned_abs, arith}
 use Rattle.picture_model.proofs.Numbers.{abs-between, between, product_within, read_wide}
 use Rattle.picture_model.specs.Shading.{radiance}
 use Rattle.picture_model.proofs.shading.radiance.Goals as goal

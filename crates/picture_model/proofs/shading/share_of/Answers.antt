@@ -1,4 +1,4 @@
-use Rattle.std.proofs.Common.{◌≡◌, ◌*◌, ◌^◌, ◌≤◌, ◌<◌, unsigned_abs, arith}
+use Rattle.std.proofs.Common.{◌^◌, unsigned_abs, arith}
 use Rattle.picture_model.proofs.Numbers.{abs-between, between, product_within, read_wide}
 use Rattle.picture_model.specs.Shading.{share_of}
 use Rattle.picture_model.proofs.shading.share_of.Goals as goal

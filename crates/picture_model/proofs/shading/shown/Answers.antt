@@ -1,4 +1,4 @@
-use Rattle.std.proofs.Common.{◌≡◌, ◌+◌, ◌*◌, ◌^◌, ◌<◌, ◌≤◌, pos, ◌+ℤ◌, unsigned_abs, arith, ap, ◌∙◌}
+use Rattle.std.proofs.Common.{◌^◌, ◌+ℤ◌, unsigned_abs, arith, ap, ◌∙◌}
 use Rattle.std.proofs.lemmas.Int.{ints}
 use Rattle.picture_model.proofs.Numbers.{abs-between, product_within, read_wide, read_wide_count, read_wide_sum}
 use Rattle.picture_model.specs.Shading.{component, shown}
