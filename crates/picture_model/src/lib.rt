@@ -3,6 +3,7 @@
 #![tactic(auto)]
 
 mod depths;
+mod limits;
 mod pictures;
 mod rays;
 mod records;
@@ -10,7 +11,11 @@ mod search;
 mod shading;
 mod tiles;
 
+#[cfg(test)]
+mod tests;
+
 pub use depths::{Crossing, depth};
+pub use limits::is_scene_within;
 pub use pictures::{part, picture, pixel, shade};
 pub use rays::{Axes, camera_ray};
 pub use records::{Blend, Hit, HitRow, NO_ID, Plane, Primitive, PrimitiveList, Rect, Scene};
