@@ -1,0 +1,10 @@
+use Rattle.std.proofs.Common.{◌≡◌, drop}
+use Rattle.std.specs.List.{filter_map}
+use Rattle.picture_model.specs.Hits.{hit_with, nearer, nearest, nearest_of}
+use Rattle.picture_model.specs.Shading.{placed}
+use Rattle.picture_model.proofs.search.nearest.Given as goal
+
+-- the best so far and the rest have the nearest hit
+abbrev pub invariant-loop-primitive : goal.invariant-loop-primitive
+invariant-loop-primitive l =
+    nearer l.best (nearest_of (filter_map (λ p. hit_with l.ray (p.place, p.shape)) (drop l.primitive-index l.primitives))) ≡ nearest l.ray (placed l.primitives)

@@ -1,0 +1,24 @@
+//! The rules of the picture, and the plain program that follows them: slow functions over a small scene whose contracts are the
+//! definitions in `specs/`. Every faster body above is measured against the same definitions.
+#![tactic(auto)]
+
+mod depths;
+mod limits;
+mod pictures;
+mod rays;
+mod records;
+mod search;
+mod shading;
+mod tiles;
+
+#[cfg(test)]
+mod tests;
+
+pub use depths::{Crossing, depth};
+pub use limits::is_scene_within;
+pub use pictures::{part, picture, pixel, shade};
+pub use rays::{Axes, camera_ray};
+pub use records::{Blend, Hit, HitRow, NO_ID, Plane, Primitive, PrimitiveList, Rect, Scene};
+pub use search::{hit_after, hits, is_nearer, nearer, nearest};
+pub use shading::{blend_hit, finish_blend, to_byte};
+pub use tiles::{tile_count, tile_of, tile_rect};
