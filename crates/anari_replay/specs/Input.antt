@@ -44,10 +44,3 @@ pub record IsRefused (old new : Option (List ℕ)) (ended : Bool) (fault : Optio
   pub rule : Rule
   pub broken : Breaks rule bytes
   pub told : fault ≡ Some (at_start rule)
-
--- the bytes were read, and they break neither of the first two rules
-pub record IsReplayed (old new : Option (List ℕ)) (ended : Bool) : Type 0 where
-  pub bytes : List ℕ
-  pub read : WasRead old new ended bytes
-  pub short : length bytes ≤ most_bytes
-  pub json : IsJson bytes

@@ -3,3 +3,6 @@ pub mod Words
 pub mod Input
 pub mod Faults
 pub mod Outcome
+pub mod FreePlaces
+pub mod Scenes
+pub mod Drawn

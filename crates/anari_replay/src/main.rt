@@ -3,10 +3,10 @@
 
 mod fault;
 mod first_trace;
-mod image;
 mod outcome;
-mod picture;
+mod recogniser;
 mod replay;
+mod scene;
 #[cfg(test)]
 mod tests;
 mod words;

@@ -1,15 +1,19 @@
 //! The top call: words and a trace in, images out.
-ghost use Rattle.std.specs.Prelude.{◌≡◌, ◌↔◌, ◌⊎◌, ◌+◌, ◌≤◌, length, IsSome, IfErr, IsErrOf, OnOk};
+ghost use Rattle.std.specs.Prelude.{◌≡◌, ◌↔◌, ◌⊎◌, ◌+◌, ◌≤◌, length, IsSome, IfErr, IfOk, IsErrOf, OnOk};
+ghost use Rattle.std.specs.Io.KnownBytes.{Appends};
 ghost use Rattle.replay_io.specs.Faults.{Rose};
+ghost use Rattle.replay_io.specs.Streams.{AppendsPrefix};
 ghost use Rattle.anari_replay.specs.Words.{AreSolo};
-ghost use Rattle.anari_replay.specs.Input.{IsJson, most_bytes, IsRefused, IsReplayed};
+ghost use Rattle.anari_replay.specs.Input.{most_bytes, IsRefused};
 ghost use Rattle.anari_replay.specs.Faults.{IsCauseIn, IsRefusal, IsSilent};
+ghost use Rattle.anari_replay.specs.Drawn.{IsDrawn, IsTold};
 ghost use Rattle.anari_replay.specs.Outcome.{IsStatus};
 
 use crate::fault::{Fault, Rule};
-use crate::first_trace::{FirstTrace, read_first_trace};
-use crate::image::image_of;
+use crate::first_trace::FirstTrace;
 use crate::outcome::{Outcome, Replayed};
+use crate::recogniser::read_first_trace;
+use crate::scene::image_of;
 use crate::words::are_solo;
 use replay_io::{Sink, Source, read_up_to, write_all};
 use serde_json::Value;
@@ -36,12 +40,19 @@ pub fn run_plain<S: Source, K: Sink>(
     ensures read_fault { result.status ≡ 4 → Rose (S.faults source.old) (S.faults source.new) }
     ensures write_fault { result.status ≡ 5 → Rose (K.faults sink.old) (K.faults sink.new) }
 
-    // A trace is refused by the first rule that the bytes break, and replayed only where they break none.
+    // A trace is refused by the first rule that the bytes break.
     ensures refused { result.status ≡ 6
         → IsRefused (S.left source.old) (S.left source.new) (S.ended source.new) result.fault }
     ensures fault { IsSome result.fault ↔ (result.status ≡ 6) }
-    ensures replayed { (result.status ≡ 0) ⊎ (result.status ≡ 5)
-        → IsReplayed (S.left source.old) (S.left source.new) (S.ended source.new) }
+
+    // What is written is the image of the picture of the scene that the bytes describe, or with
+    // status 5 some of its first bytes.
+    ensures drawn { result.status ≡ 0
+        → IsDrawn (S.left source.old) (S.left source.new) (S.ended source.new)
+        (Appends (K.written sink.old) (K.written sink.new)) }
+    ensures drawn_in_part { result.status ≡ 5
+        → IsDrawn (S.left source.old) (S.left source.new) (S.ended source.new)
+        (AppendsPrefix (K.written sink.old) (K.written sink.new)) }
 
     // Nothing is written where the words or the trace are refused or a read failed.
     ensures silent { (result.status ≡ 2) ⊎ (result.status ≡ 4) ⊎ (result.status ≡ 6)
@@ -63,9 +74,12 @@ fn replay<S: Source, K: Sink>(
     ensures write_fault { IsErrOf result Fault.Write → Rose (K.faults sink.old) (K.faults sink.new) }
     ensures refused { IfErr result
         (IsRefusal (S.left source.old) (S.left source.new) (S.ended source.new)) }
-    ensures replayed { OnOk result (IsReplayed (S.left source.old) (S.left source.new) (S.ended source.new)) }
-    ensures written_in_part { IsErrOf result Fault.Write
-        → IsReplayed (S.left source.old) (S.left source.new) (S.ended source.new) }
+    ensures drawn { OnOk result
+        (IsDrawn (S.left source.old) (S.left source.new) (S.ended source.new)
+        (Appends (K.written sink.old) (K.written sink.new))) }
+    ensures drawn_in_part { IsErrOf result Fault.Write
+        → IsDrawn (S.left source.old) (S.left source.new) (S.ended source.new)
+        (AppendsPrefix (K.written sink.old) (K.written sink.new)) }
     ensures silent { IfErr result (IsSilent sink.old sink.new) }
 {
     if !are_solo(words) {
@@ -83,7 +97,7 @@ fn replay<S: Source, K: Sink>(
 /// The trace that the bytes are.
 fn recognise(alloc: Global, bytes: &[u8]) -> Result<FirstTrace, Fault>
     requires { length bytes.now ≤ most_bytes + 1 }
-    ensures ok { OnOk result ((length bytes.now ≤ most_bytes) × IsJson bytes.now) }
+    ensures ok { IfOk result (IsTold bytes.now) }
     ensures err { IfErr result (IsCauseIn bytes.now) }
 {
     if bytes.len() == MOST_READ {

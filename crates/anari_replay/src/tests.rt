@@ -2,8 +2,8 @@
 //! memory comes where there is memory.
 
 use crate::fault::TraceFault;
-use crate::first_trace::TRIANGLE;
 use crate::outcome::Outcome;
+use crate::recogniser::TRIANGLE;
 use crate::replay::run_plain;
 use replay_io::{HostSource, MemorySink, MemorySource};
 use std::alloc::{AllocError, Global};

@@ -7,3 +7,4 @@ pub mod Numbers
 pub mod PixelRows
 pub mod Spheres
 pub mod Tilings
+pub mod PictureSizes
