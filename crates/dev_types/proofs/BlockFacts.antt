@@ -1,5 +1,5 @@
 -- Elements of a block: their sizes, and what a write of one changes.
-use Rattle.std.proofs.Common.{ℕ, zero, suc, ◌+◌, ◌*◌, ◌≤◌, ◌<◌, ◌≡◌, ◌∙◌, ap, sym, refl, List, ◌++◌, length, take, drop, IsTrue, arith, append_assoc, length-append, length-take, length-drop}
+use Rattle.std.proofs.Common.{ℕ, ◌+◌, ◌*◌, ◌≤◌, ◌≡◌, ◌∙◌, ap, sym, refl, List, ◌++◌, length, take, drop, IsTrue, arith, length-append, length-take, length-drop}
 use Rattle.std.proofs.Math.Seq.{take-append_seam, drop-append_seam}
 use Rattle.std.proofs.lemmas.List.{length-take-le}
 use Rattle.dev_types.specs.Blocks.{part_of, with_part}
@@ -43,5 +43,5 @@ pub part_of-with_part : (t : DataType) (stride : ℕ) (bytes : List ℕ) (i : �
 part_of-with_part t stride bytes i part sized within =
     let front : length (take (i * stride) bytes) ≡ i * stride = length-take-le (i * stride) bytes within in
     let after : drop (i * stride) (with_part t stride bytes i part) ≡ part ++ drop (i * stride + byte_size t) bytes =
-        ap (λ (n : ℕ). drop n (with_part t stride bytes i part)) (sym front) ∙ drop-append_seam (take (i * stride) bytes) (part ++ drop (i * stride + byte_size t) bytes) in
+    ap (λ (n : ℕ). drop n (with_part t stride bytes i part)) (sym front) ∙ drop-append_seam (take (i * stride) bytes) (part ++ drop (i * stride + byte_size t) bytes) in
     ap (take (byte_size t)) after ∙ ap (λ (n : ℕ). take n (part ++ drop (i * stride + byte_size t) bytes)) (sym sized) ∙ take-append_seam part (drop (i * stride + byte_size t) bytes)
