@@ -1,5 +1,5 @@
 -- Where the elements of a part of a loan lie.
-use Rattle.std.proofs.Common.{ℕ, zero, suc, ◌+◌, ◌-◌, ◌*◌, ◌<◌, ◌≤◌, ◌≡◌, ◌∙◌, ap, sym, refl, subst, List, length, take, drop, IsTrue, arith, length-drop, length-take, nat_lt, true, false, inl, inr, ◌⊎◌, Bool, Some, None}
+use Rattle.std.proofs.Common.{ℕ, zero, suc, ◌+◌, ◌-◌, ◌*◌, ◌<◌, ◌≤◌, ◌≡◌, ◌∙◌, ap, sym, refl, subst, List, length, take, drop, arith, length-drop, length-take, nat_lt, true, false, inl, inr, ◌⊎◌, Bool, Some, None}
 use Rattle.std.specs.Prelude.{if◌then◌else◌}
 use Rattle.std.proofs.Math.Nat.{add-mul, suc-mul, mul-le-mul_right}
 use Rattle.std.proofs.Math.Seq.{take-length}

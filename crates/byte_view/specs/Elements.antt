@@ -1,5 +1,5 @@
 -- What contracts see of a strided loan: the elements that it lends.
-use Rattle.std.specs.Prelude.{ℕ, ◌*◌, nat_lt, List, length, drop, if◌then◌else◌}
+use Rattle.std.specs.Prelude.{ℕ, ◌*◌, nat_lt, List, length, if◌then◌else◌}
 use Rattle.dev_types.specs.Blocks.{part_of, element_of, with_part, FitsBlock}
 use Rattle.dev_types.specs.declared.data_types.DataType.{DataType}
 use Rattle.dev_types.specs.declared.values.Value.{Value}

@@ -1,5 +1,4 @@
 -- What contracts see of a loan that may be written: its elements, and the reference that it holds.
-use Rattle.std.specs.Prelude.{ℕ}
 use Rattle.std.specs.Borrow.{GName}
 use Rattle.byte_view.specs.Elements.{Elements}
 use Rattle.byte_view.specs.declared.writes.StridedMut.{StridedMut}

@@ -4,7 +4,9 @@
 #![tactic(auto)]
 
 pub mod reads;
+#[cfg(test)]
+mod tests;
 pub mod writes;
 
-pub use reads::Strided;
+pub use reads::{Strided, fits_block};
 pub use writes::StridedMut;

@@ -34,15 +34,24 @@ impl<'a> Strided<'a> {
         ensures valid { IsSome result ↔ FitsBlock ty stride count (length bytes.now) }
         ensures value { IfSome result (λ s. s ≡ record { ty = ty; stride = stride; count = count; bytes = bytes.now }) }
     {
-        if !fits_block(ty, stride, count, bytes.len()) {
-            return None;
+        if fits_block(ty, stride, count, bytes.len()) {
+            Some(Strided::over(bytes, ty, stride, count))
+        } else {
+            None
         }
-        Some(Strided {
+    }
+
+    /// The loan of elements that are known to lie in the bytes; `fits_block` is the test.
+    pub fn over(bytes: &'a [u8], ty: DataType, stride: u64, count: u64) -> Strided<'a>
+        requires { FitsBlock ty stride count (length bytes.now) }
+        ensures { result ≡ record { ty = ty; stride = stride; count = count; bytes = bytes.now } }
+    {
+        Strided {
             bytes,
             ty,
             stride,
             count,
-        })
+        }
     }
 
     pub fn data_type(&self) -> DataType
@@ -117,8 +126,9 @@ impl<'a> Strided<'a> {
     }
 }
 
-/// Whether so many elements, so many bytes apart, lie in a block of `len` bytes.
-pub(crate) fn fits_block(ty: DataType, stride: u64, count: u64, len: usize) -> bool
+/// Whether arrays may have elements of this type, and so many of them, each `stride` bytes behind the one
+/// before and none over another, lie in a block of `len` bytes.
+pub fn fits_block(ty: DataType, stride: u64, count: u64, len: usize) -> bool
     ensures { IsTrue result ↔ FitsBlock ty stride count len }
 {
     let size = u64::from(size_of(ty));

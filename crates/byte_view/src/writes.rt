@@ -34,7 +34,8 @@ impl<'a> StridedMut<'a> {
         }
     }
 
-    /// The loan of elements that are known to lie in the bytes.
+    /// The loan of elements that are known to lie in the bytes; `fits_block` is the test. What is written
+    /// through it stands in the bytes afterwards, also where they are one part of a block that was split.
     pub fn over(bytes: &'a mut [u8], ty: DataType, stride: u64, count: u64) -> StridedMut<'a>
         requires { FitsBlock ty stride count (length bytes.old) }
         ensures value { elements result ≡ record { ty = ty; stride = stride; count = count; bytes = bytes.old } }
@@ -88,7 +89,8 @@ impl<'a> StridedMut<'a> {
         write_value(v, &mut self.bytes[start..start + size]);
     }
 
-    /// The elements before `i` and those from `i` on, to be written independently of each other.
+    /// The elements before `i` and those from `i` on, to be written independently of each other: the
+    /// bytes are cut where element `i` begins.
     pub fn split_at_mut(self, i: u64) -> (StridedMut<'a>, StridedMut<'a>)
         requires { i ≤ (elements self).count }
         ensures front { let e = elements self.entry in elements result.0 ≡ record e { count = i; bytes = take (start_of e i) e.bytes } }
@@ -108,7 +110,8 @@ impl<'a> StridedMut<'a> {
         )
     }
 
-    fn start_of(&self, i: u64) -> usize
+    /// Where element `i` begins in the bytes; behind the last element, their end.
+    pub fn start_of(&self, i: u64) -> usize
         requires { i ≤ (elements self.now).count }
         ensures { result ≡ start_of (elements self.now) i }
     {

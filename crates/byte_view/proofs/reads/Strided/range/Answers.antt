@@ -1,5 +1,5 @@
 use Rattle.std.proofs.Common.{ap}
-use Rattle.byte_view.specs.Elements.{Elements, start_of}
+use Rattle.byte_view.specs.Elements.{Elements}
 use Rattle.byte_view.proofs.ElementFacts.{range_fits}
 use Rattle.byte_view.proofs.reads.Strided.range.Goals as goal
 

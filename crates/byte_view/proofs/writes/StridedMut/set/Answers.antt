@@ -14,8 +14,8 @@ pub returns-clause-back : goal.returns-clause-back
 returns-clause-back c =
     let here : c.args.i * c.args.self.now.stride + byte_size c.args.self.now.ty ≤ length c.args.self.now.bytes.now = ends_within (elements c.args.self.now) c.args.i c.args.self.now.fits c.requires.within in
     let sized : length c.write_value.new.into ≡ byte_size c.args.self.now.ty =
-        omega (arith, c.write_value.auto.into, c.size_of-size.ensures, length-take (c.args.i * c.args.self.now.stride + c.size_of-size.result - c.args.i * c.args.self.now.stride) (drop (c.args.i * c.args.self.now.stride) c.args.self.now.bytes.now), length-drop (c.args.i * c.args.self.now.stride) c.args.self.now.bytes.now) in
+    omega (arith, c.write_value.auto.into, c.size_of-size.ensures, length-take (c.args.i * c.args.self.now.stride + c.size_of-size.result - c.args.i * c.args.self.now.stride) (drop (c.args.i * c.args.self.now.stride) c.args.self.now.bytes.now), length-drop (c.args.i * c.args.self.now.stride) c.args.self.now.bytes.now) in
     ap (λ (bs : List ℕ). element_of c.args.self.now.ty c.args.self.now.stride bs c.args.i)
-      (written c.write_value.new.into c.args.self.now.bytes.now (c.args.i * c.args.self.now.stride) _ (byte_size c.args.self.now.ty) (omega (arith, c.size_of-size.ensures))) ∙
+    (written c.write_value.new.into c.args.self.now.bytes.now (c.args.i * c.args.self.now.stride) _ (byte_size c.args.self.now.ty) (omega (arith, c.size_of-size.ensures))) ∙
     element_written (elements c.args.self.now) c.args.i c.write_value.new.into c.args.v.now
-      (omega arith) sized c.requires.typed (c.write_value.ensures.back c.requires.well_typed)
+    (omega arith) sized c.requires.typed (c.write_value.ensures.back c.requires.well_typed)
