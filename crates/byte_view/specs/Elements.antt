@@ -27,5 +27,8 @@ abbrev pub with_element : Elements → ℕ → List ℕ → Elements
 with_element e i own = record e { bytes = with_part e.ty e.stride e.bytes i own }
 
 -- where element i begins; behind the last element, the end of the bytes
+abbrev pub cut_before : ℕ → ℕ → ℕ → ℕ → ℕ
+cut_before stride count len i = if nat_lt i count then i * stride else len
+
 abbrev pub start_of : Elements → ℕ → ℕ
-start_of e i = if nat_lt i e.count then i * e.stride else length e.bytes
+start_of e i = cut_before e.stride e.count (length e.bytes) i

@@ -9,4 +9,4 @@ mod tests;
 pub mod writes;
 
 pub use reads::{Strided, fits_block};
-pub use writes::StridedMut;
+pub use writes::{StridedMut, split_block};

@@ -76,7 +76,7 @@ fn write_both(bytes: &mut [u8], first: &Value, second: &Value)
     requires second { (type_of second.now ≡ DataType.ScalarVec3) × IsTrue (is_well_typed second.now) }
     ensures { bytes.new ≡ bytes_of first.now ++ bytes_of second.now }
 {
-    let (front, back) = bytes.split_at_mut(12);
+    let (front, back) = split_block(bytes, DataType::ScalarVec3, 12, 2, 1);
     let mut front = StridedMut::over(front, DataType::ScalarVec3, 12, 1);
     let mut back = StridedMut::over(back, DataType::ScalarVec3, 12, 1);
     front.set(0, first);

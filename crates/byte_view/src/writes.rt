@@ -1,4 +1,6 @@
-ghost use Rattle.std.specs.Prelude.{◌≡◌, ◌-◌, ◌<◌, ◌≤◌, ◌↔◌, IsTrue, IsSome, IfSome, length, take, drop};
+ghost use Rattle.std.specs.Prelude.{◌≡◌, ◌-◌, ◌<◌, ◌≤◌, ◌↔◌, IsTrue, IsSome, IfSome, length, take, drop, ◌++◌};
+ghost use Rattle.std.specs.Borrow.{sem, Array, LendsBoth, u8 as byte};
+ghost use Rattle.byte_view.specs.Elements.{cut_before};
 ghost use Rattle.dev_types.specs.Blocks.{FitsBlock};
 ghost use Rattle.dev_types.specs.ValueBytes.{type_of, bytes_of, is_well_typed};
 
@@ -35,7 +37,7 @@ impl<'a> StridedMut<'a> {
     }
 
     /// The loan of elements that are known to lie in the bytes; `fits_block` is the test. What is written
-    /// through it stands in the bytes afterwards, also where they are one part of a block that was split.
+    /// through it stands in the bytes afterwards.
     pub fn over(bytes: &'a mut [u8], ty: DataType, stride: u64, count: u64) -> StridedMut<'a>
         requires { FitsBlock ty stride count (length bytes.old) }
         ensures value { elements result ≡ record { ty = ty; stride = stride; count = count; bytes = bytes.old } }
@@ -89,36 +91,48 @@ impl<'a> StridedMut<'a> {
         write_value(v, &mut self.bytes[start..start + size]);
     }
 
-    /// The elements before `i` and those from `i` on, to be written independently of each other: the
-    /// bytes are cut where element `i` begins.
+    /// The elements before `i` and those from `i` on, to be written independently of each other. The
+    /// bytes are cut as by `split_block`.
     pub fn split_at_mut(self, i: u64) -> (StridedMut<'a>, StridedMut<'a>)
         requires { i ≤ (elements self).count }
         ensures front { let e = elements self.entry in elements result.0 ≡ record e { count = i; bytes = take (start_of e i) e.bytes } }
         ensures back { let e = elements self.entry in elements result.1 ≡ record e { count = e.count - i; bytes = drop (start_of e i) e.bytes } }
     {
-        let at = self.start_of(i);
         let StridedMut {
             bytes,
             ty,
             stride,
             count,
         } = self;
-        let (front, back) = bytes.split_at_mut(at);
+        let (front, back) = split_block(bytes, ty, stride, count, i);
         (
             StridedMut::over(front, ty, stride, i),
             StridedMut::over(back, ty, stride, count - i),
         )
     }
+}
 
-    /// Where element `i` begins in the bytes; behind the last element, their end.
-    pub fn start_of(&self, i: u64) -> usize
-        requires { i ≤ (elements self.now).count }
-        ensures { result ≡ start_of (elements self.now) i }
-    {
-        if i < self.count {
-            (i * self.stride) as usize
-        } else {
-            self.bytes.len()
-        }
+/// Cuts a block of elements before element `i`. Both parts are blocks of their elements, which
+/// `StridedMut::over` lends, and what is written to either stands in the whole block afterwards.
+pub fn split_block(
+    bytes: &mut [u8],
+    ty: DataType,
+    stride: u64,
+    count: u64,
+    i: u64,
+) -> (&mut [u8], &mut [u8])
+    requires fits { FitsBlock ty stride count (length bytes.old) }
+    requires within { i ≤ count }
+    ensures front { result.0.now ≡ take (cut_before stride count (length bytes.old) i) bytes.old }
+    ensures back { result.1.now ≡ drop (cut_before stride count (length bytes.old) i) bytes.old }
+    ensures front_fits { FitsBlock ty stride i (length result.0.now) }
+    ensures back_fits { FitsBlock ty stride (count - i) (length result.1.now) }
+    ensures* writes_back { sem 𝓛 (LendsBoth (Array byte 0) (Array byte 0) (Array byte 0) bytes.entry result ◌++◌) }
+{
+    if i < count {
+        bytes.split_at_mut((i * stride) as usize)
+    } else {
+        let end = bytes.len();
+        bytes.split_at_mut(end)
     }
 }
