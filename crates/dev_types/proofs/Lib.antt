@@ -1,3 +1,4 @@
+pub mod BlockFacts
 pub mod TextFacts
 pub mod TypeFacts
 pub mod ValueFacts

@@ -1,3 +1,4 @@
+pub mod Blocks
 pub mod Bounded
 pub mod DataTypes
 pub mod Refusals

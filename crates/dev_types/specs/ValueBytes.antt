@@ -51,6 +51,12 @@ bytes_of (Str text) = text
 bytes_of (TypeName t) = unsigned_bytes (type_number t)
 bytes_of (Object _ h) = to_le_bytes w64 h
 
+-- how many bytes a value has
+abbrev pub value_size : Value → ℕ
+value_size (Str text) = length text
+value_size (Object _ _) = 8
+value_size v = byte_size (type_of v)
+
 -- every value but an object of a type that is no object type
 abbrev pub is_well_typed : Value → Bool
 is_well_typed (Object t _) = is_object_type t

@@ -2,7 +2,7 @@ ghost use Rattle.std.specs.Prelude.{◌≡◌, ◌*◌, ◌↔◌, Some, IsTrue,
 ghost use Rattle.std.specs.Int.{w64, to_le_bytes, from_le_bytes};
 ghost use Rattle.std.specs.List.{flat_map};
 ghost use Rattle.dev_types.specs.DataTypes.{byte_size};
-ghost use Rattle.dev_types.specs.ValueBytes.{type_of, bytes_of, is_well_typed, unsigned_bytes, signed_bytes, unsigned_number, signed_number, unsigned_numbers, signed_numbers, has_any_bytes, are_bytes_of, value_of, decoded};
+ghost use Rattle.dev_types.specs.ValueBytes.{type_of, bytes_of, value_size, is_well_typed, unsigned_bytes, signed_bytes, unsigned_number, signed_number, unsigned_numbers, signed_numbers, has_any_bytes, are_bytes_of, value_of, decoded};
 
 use crate::data_types::{DataType, size_of};
 use crate::handles::{Handle, NoMemory};
@@ -66,21 +66,13 @@ impl Value {
     }
 
     /// How many bytes this value has.
-    #[tactic(auto, using(crate::proofs::ValueFacts::length_unsigned, crate::proofs::ValueFacts::length_signed))]
     pub fn encoded_len(&self) -> usize
-        ensures { result ≡ length (bytes_of self.now) }
+        ensures { result ≡ value_size self.now }
     {
         match self {
-            Value::Int32(_) | Value::Uint32(_) | Value::Scalar(_) | Value::TypeName(_) => 4,
-            Value::Uint64(_) | Value::Object(..) => 8,
-            Value::Uint32Vec2(numbers) => 4 * numbers.as_slice().len(),
-            Value::Uint32Vec3(numbers) => 4 * numbers.as_slice().len(),
-            Value::ScalarVec2(numbers) => 4 * numbers.as_slice().len(),
-            Value::ScalarVec3(numbers) => 4 * numbers.as_slice().len(),
-            Value::ScalarMat34(numbers) => 4 * numbers.as_slice().len(),
-            Value::ScalarBox3(numbers) => 4 * numbers.as_slice().len(),
-            Value::Ufixed8Vec4(bytes) => bytes.as_slice().len(),
             Value::Str(text) => text.as_str().len(),
+            Value::Object(..) => 8,
+            _ => size_of(self.data_type()) as usize,
         }
     }
 }
@@ -89,7 +81,7 @@ impl Value {
 /// bytes of its handle.
 #[tactic(auto, using(crate::proofs::ValueFacts::number_of_bytes))]
 pub fn write_value(value: &Value, into: &mut [u8])
-    requires { length into.old ≡ length (bytes_of value.now) }
+    requires { length into.old ≡ value_size value.now }
     ensures value { into.new ≡ bytes_of value.now }
 
     // The value can be read from its bytes again, but for an object of no object type.
@@ -113,24 +105,20 @@ pub fn write_value(value: &Value, into: &mut [u8])
     }
 }
 
-#[tactic(auto, using(crate::proofs::ValueFacts::length_unsigned))]
 fn write_unsigned<const N: usize>(numbers: &[u32; N], into: &mut [u8])
-    requires { length into.old ≡ length (flat_map unsigned_bytes numbers.now) }
+    requires { length into.old ≡ 4 * N }
     ensures value { into.new ≡ flat_map unsigned_bytes numbers.now }
     ensures back { unsigned_numbers N into.new ≡ numbers.now }
-    ensures sized { length into.new ≡ 4 * N }
 {
     for (i, &number) in numbers.iter().enumerate() {
         into[4 * i..4 * i + 4].copy_from_slice(&number.to_le_bytes());
     }
 }
 
-#[tactic(auto, using(crate::proofs::ValueFacts::length_signed))]
 fn write_signed<const N: usize>(numbers: &[i32; N], into: &mut [u8])
-    requires { length into.old ≡ length (flat_map signed_bytes numbers.now) }
+    requires { length into.old ≡ 4 * N }
     ensures value { into.new ≡ flat_map signed_bytes numbers.now }
     ensures back { signed_numbers N into.new ≡ numbers.now }
-    ensures sized { length into.new ≡ 4 * N }
 {
     for (i, &number) in numbers.iter().enumerate() {
         into[4 * i..4 * i + 4].copy_from_slice(&number.to_le_bytes());

@@ -1,0 +1,118 @@
+// What the proofs cannot see: rows from outside, that what is written through a loan stands in the block
+// afterwards, also where two threads write its halves, and that a part is the block's own memory.
+ghost use Rattle.std.specs.Prelude.{◌≡◌, ◌++◌, IsTrue, length};
+ghost use Rattle.dev_types.specs.ValueBytes.{type_of, bytes_of, is_well_typed};
+
+use super::*;
+use dev_types::{DataType, Value};
+use std::test::Fail;
+use std::thread;
+
+const VECTOR: DataType = DataType::ScalarVec3;
+
+#[test]
+fn a_loan_is_made_where_its_elements_fit(rt: HostRuntime) {
+    let block = [0; 36];
+    let rows: [(DataType, u64, u64, bool); 9] = [
+        (VECTOR, 11, 3, false),
+        (VECTOR, 12, 3, true),
+        (VECTOR, 24, 2, true),
+        (VECTOR, 13, 3, false),
+        (VECTOR, 12, 0, true),
+        (VECTOR, 12, 4, false),
+        (VECTOR, u64::MAX, 1, true),
+        (VECTOR, u64::MAX, 3, false),
+        (DataType::Camera, 8, 1, false),
+    ];
+    for (ty, stride, count, fits) in rows {
+        let mut bytes = [0; 36];
+        assert!(rt;
+            Strided::new(&block, ty, stride, count).is_some() == fits,
+            "{ty:?} {stride} {count}"
+        );
+        assert!(rt;
+            StridedMut::new(&mut bytes, ty, stride, count).is_some() == fits,
+            "{ty:?} {stride} {count}"
+        );
+    }
+}
+
+#[test]
+fn elements_are_read_with_their_stride(rt: HostRuntime) -> Result<(), Fail> {
+    let block = [
+        1, 0, 0, 0, 0xee, 0xee, 2, 1, 0, 0, 0xee, 0xee, 0xff, 0xff, 0xff, 0xff,
+    ];
+    let view = Strided::new(&block, DataType::Scalar, 6, 3).ok_or("no loan")?;
+    assert!(rt; view.len() == 3 && view.stride() == 6 && !view.is_empty());
+    assert!(rt; view.data_type() == DataType::Scalar);
+    assert!(rt; view.get(0) == Value::Scalar(1));
+    assert!(rt; view.get(1) == Value::Scalar(258));
+    assert!(rt; view.get(2) == Value::Scalar(-1));
+    assert!(rt; view.part(1) == [2, 1, 0, 0].as_slice());
+    let last_two = view.range(1, 3);
+    assert!(rt; last_two.len() == 2 && last_two.get(1) == Value::Scalar(-1));
+    assert!(rt; view.range(3, 3).is_empty());
+    Ok(())
+}
+
+#[test]
+fn a_write_changes_the_elements_own_bytes(rt: HostRuntime) -> Result<(), Fail> {
+    let mut block = [0xee; 16];
+    let mut view = StridedMut::new(&mut block, DataType::Scalar, 6, 3).ok_or("no loan")?;
+    assert!(rt; view.len() == 3 && view.stride() == 6 && !view.is_empty());
+    assert!(rt; view.data_type() == DataType::Scalar);
+    view.set(1, &Value::Scalar(131072));
+    let expected = [
+        0xee, 0xee, 0xee, 0xee, 0xee, 0xee, 0, 0, 2, 0, 0xee, 0xee, 0xee, 0xee, 0xee, 0xee,
+    ];
+    assert!(rt; block.as_slice() == expected.as_slice());
+    Ok(())
+}
+
+// What each of two loans over the two parts of a block writes stands in the block afterwards.
+fn write_both(bytes: &mut [u8], first: &Value, second: &Value)
+    requires long { length bytes.old ≡ 24 }
+    requires first { (type_of first.now ≡ DataType.ScalarVec3) × IsTrue (is_well_typed first.now) }
+    requires second { (type_of second.now ≡ DataType.ScalarVec3) × IsTrue (is_well_typed second.now) }
+    ensures { bytes.new ≡ bytes_of first.now ++ bytes_of second.now }
+{
+    let (front, back) = split_block(bytes, DataType::ScalarVec3, 12, 2, 1);
+    let mut front = StridedMut::over(front, DataType::ScalarVec3, 12, 1);
+    let mut back = StridedMut::over(back, DataType::ScalarVec3, 12, 1);
+    front.set(0, first);
+    back.set(0, second);
+}
+
+#[test]
+fn both_parts_stand_in_the_block(rt: HostRuntime) {
+    let mut block = [0; 24];
+    write_both(
+        &mut block,
+        &Value::ScalarVec3([1, 2, 3]),
+        &Value::ScalarVec3([4, 5, 6]),
+    );
+    let view = Strided::new(&block, VECTOR, 12, 2);
+    assert!(rt; view.is_some_and(|view| view.get(1) == Value::ScalarVec3([4, 5, 6])));
+}
+
+#[test]
+fn two_threads_write_the_halves(rt: HostRuntime) -> Result<(), Fail> {
+    let mut block = [0xee; 22];
+    let view = StridedMut::new(&mut block, DataType::Scalar, 6, 4).ok_or("no loan")?;
+    let (mut front, mut back) = view.split_at_mut(1);
+    assert!(rt; front.len() == 1 && back.len() == 3);
+    thread::join(
+        &rt,
+        || front.set(0, &Value::Scalar(1)),
+        || {
+            back.set(0, &Value::Scalar(2));
+            back.set(2, &Value::Scalar(3));
+        },
+    );
+    let expected = [
+        1, 0, 0, 0, 0xee, 0xee, 2, 0, 0, 0, 0xee, 0xee, 0xee, 0xee, 0xee, 0xee, 0xee, 0xee, 3, 0,
+        0, 0,
+    ];
+    assert!(rt; block.as_slice() == expected.as_slice());
+    Ok(())
+}
