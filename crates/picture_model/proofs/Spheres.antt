@@ -135,14 +135,14 @@ pub found_never : (test : ℕ → Bool) (k : ℕ) → first_from test zero k ≡
 unfolding first_from
 found_never test k = refl
 
-below_or_at : (k s : ℕ) → k ≤ s → (k < s) ⊎ (k ≡ s)
+pub below_or_at : (k s : ℕ) → k ≤ s → (k < s) ⊎ (k ≡ s)
 below_or_at k s l = by_test (nat_lt k s) refl
   where
     by_test : (b : Bool) → nat_lt k s ≡ b → (k < s) ⊎ (k ≡ s)
     by_test true e = inl (grind (arith, nat_tests))
     by_test false e = inr (grind (arith, nat_tests))
 
-le_or_below : (j s : ℕ) → (j < s) ⊎ (s ≤ j)
+pub le_or_below : (j s : ℕ) → (j < s) ⊎ (s ≤ j)
 le_or_below j s = by_test (nat_lt j s) refl
   where
     by_test : (b : Bool) → nat_lt j s ≡ b → (j < s) ⊎ (s ≤ j)
