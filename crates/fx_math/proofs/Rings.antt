@@ -12,21 +12,21 @@ pub record Is (z : ℤ) (u v : ℕ) : Type 0 where
   pub is : up z + v ≡ down z + u
 
 -- a number is the difference of its two parts
-pub parts : (a : ℤ) → Is a (up a) (down a)
-parts a = record { is = omega arith }
+pub Is-parts : (a : ℤ) → Is a (up a) (down a)
+Is-parts a = record { is = omega arith }
 
 -- a natural has nothing to take away
-pub natural : (n : ℕ) → Is (pos n) n 0
-natural n = record { is = omega arith }
+pub Is-natural : (n : ℕ) → Is (pos n) n 0
+Is-natural n = record { is = omega arith }
 
-pub sum : (a b : ℤ) (u v s t : ℕ) → Is a u v → Is b s t → Is (a +ℤ b) (u + s) (v + t)
-sum a b u v s t p q = record { is = omega (arith, ints, p.is, q.is) }
+pub Is-add : (a b : ℤ) (u v s t : ℕ) → Is a u v → Is b s t → Is (a +ℤ b) (u + s) (v + t)
+Is-add a b u v s t p q = record { is = omega (arith, ints, p.is, q.is) }
 
-pub difference : (a b : ℤ) (u v s t : ℕ) → Is a u v → Is b s t → Is (a -ℤ b) (u + t) (v + s)
-difference a b u v s t p q = record { is = omega (arith, ints, p.is, q.is) }
+pub Is-sub : (a b : ℤ) (u v s t : ℕ) → Is a u v → Is b s t → Is (a -ℤ b) (u + t) (v + s)
+Is-sub a b u v s t p q = record { is = omega (arith, ints, p.is, q.is) }
 
-pub opposite : (a : ℤ) (u v : ℕ) → Is a u v → Is (neg_ℤ a) v u
-opposite a u v p = record { is = omega (arith, ints, p.is) }
+pub Is-neg : (a : ℤ) (u v : ℕ) → Is a u v → Is (neg_ℤ a) v u
+Is-neg a u v p = record { is = omega (arith, ints, p.is) }
 
 product_parts : (a d b e u v s t : ℕ) → a + v ≡ d + u → b + t ≡ e + s → a * b + d * e + (u * t + v * s) ≡ a * e + d * b + (u * s + v * t)
 product_parts a d b e u v s t p q =
@@ -36,11 +36,11 @@ product_parts a d b e u v s t p q =
     let at_v = ap (λ (n : ℕ). n * v) q in
     omega arith
 
-pub product : (a b : ℤ) (u v s t : ℕ) → Is a u v → Is b s t → Is (a *ℤ b) (u * s + v * t) (u * t + v * s)
-product a b u v s t p q =
-    let parts = product_is a b in
+pub Is-mul : (a b : ℤ) (u v s t : ℕ) → Is a u v → Is b s t → Is (a *ℤ b) (u * s + v * t) (u * t + v * s)
+Is-mul a b u v s t p q =
+    let split = product_is a b in
     let equal = product_parts (up a) (down a) (up b) (down b) u v s t p.is q.is in
-    record { is = omega (arith, parts.0, parts.1, equal) }
+    record { is = omega (arith, split.0, split.1, equal) }
 
 -- two differences that agree as naturals are one number
 pub same_by : (a b : ℤ) (u v s t : ℕ) → Is a u v → Is b s t → u + t ≡ v + s → a ≡ b
@@ -50,15 +50,15 @@ same_by a b u v s t p q e = same_in a b (omega (arith, p.is, q.is))
 pub *ℤ-+ℤ : (a b c : ℤ) → a *ℤ (b +ℤ c) ≡ a *ℤ b +ℤ a *ℤ c
 *ℤ-+ℤ a b c =
     same_by _ _ _ _ _ _
-    (product a (b +ℤ c) _ _ _ _ (parts a) (sum b c _ _ _ _ (parts b) (parts c)))
-    (sum (a *ℤ b) (a *ℤ c) _ _ _ _ (product a b _ _ _ _ (parts a) (parts b)) (product a c _ _ _ _ (parts a) (parts c)))
+    (Is-mul a (b +ℤ c) _ _ _ _ (Is-parts a) (Is-add b c _ _ _ _ (Is-parts b) (Is-parts c)))
+    (Is-add (a *ℤ b) (a *ℤ c) _ _ _ _ (Is-mul a b _ _ _ _ (Is-parts a) (Is-parts b)) (Is-mul a c _ _ _ _ (Is-parts a) (Is-parts c)))
     (omega arith)
 
 pub *ℤ--ℤ : (a b c : ℤ) → a *ℤ (b -ℤ c) ≡ a *ℤ b -ℤ a *ℤ c
 *ℤ--ℤ a b c =
     same_by _ _ _ _ _ _
-    (product a (b -ℤ c) _ _ _ _ (parts a) (difference b c _ _ _ _ (parts b) (parts c)))
-    (difference (a *ℤ b) (a *ℤ c) _ _ _ _ (product a b _ _ _ _ (parts a) (parts b)) (product a c _ _ _ _ (parts a) (parts c)))
+    (Is-mul a (b -ℤ c) _ _ _ _ (Is-parts a) (Is-sub b c _ _ _ _ (Is-parts b) (Is-parts c)))
+    (Is-sub (a *ℤ b) (a *ℤ c) _ _ _ _ (Is-mul a b _ _ _ _ (Is-parts a) (Is-parts b)) (Is-mul a c _ _ _ _ (Is-parts a) (Is-parts c)))
     (omega arith)
 
 -- ---- vectors, told by their components
@@ -96,112 +96,112 @@ minors u v s t = record {
 abbrev pub dots : Three → Three → Three → Three → ℕ
 dots u v s t = u.x * s.x + v.x * t.x + (u.y * s.y + v.y * t.y) + (u.z * s.z + v.z * t.z)
 
-pub vec_parts : (a : Vec3) → Are a (ups a) (downs a)
-vec_parts a = record { x = parts a.x; y = parts a.y; z = parts a.z }
+pub Are-parts : (a : Vec3) → Are a (ups a) (downs a)
+Are-parts a = record { x = Is-parts a.x; y = Is-parts a.y; z = Is-parts a.z }
 
-pub vec_sum : (a b : Vec3) (u v s t : Three) → Are a u v → Are b s t → Are (add a b) (sums u s) (sums v t)
+pub Are-add : (a b : Vec3) (u v s t : Three) → Are a u v → Are b s t → Are (add a b) (sums u s) (sums v t)
 unfolding add
-vec_sum a b u v s t p q = record {
-  x = sum a.x b.x _ _ _ _ p.x q.x;
-  y = sum a.y b.y _ _ _ _ p.y q.y;
-  z = sum a.z b.z _ _ _ _ p.z q.z;
+Are-add a b u v s t p q = record {
+  x = Is-add a.x b.x _ _ _ _ p.x q.x;
+  y = Is-add a.y b.y _ _ _ _ p.y q.y;
+  z = Is-add a.z b.z _ _ _ _ p.z q.z;
 }
 
-pub vec_difference : (a b : Vec3) (u v s t : Three) → Are a u v → Are b s t → Are (sub a b) (sums u t) (sums v s)
+pub Are-sub : (a b : Vec3) (u v s t : Three) → Are a u v → Are b s t → Are (sub a b) (sums u t) (sums v s)
 unfolding sub
-vec_difference a b u v s t p q = record {
-  x = difference a.x b.x _ _ _ _ p.x q.x;
-  y = difference a.y b.y _ _ _ _ p.y q.y;
-  z = difference a.z b.z _ _ _ _ p.z q.z;
+Are-sub a b u v s t p q = record {
+  x = Is-sub a.x b.x _ _ _ _ p.x q.x;
+  y = Is-sub a.y b.y _ _ _ _ p.y q.y;
+  z = Is-sub a.z b.z _ _ _ _ p.z q.z;
 }
 
-pub vec_opposite : (a : Vec3) (u v : Three) → Are a u v → Are (neg a) v u
+pub Are-neg : (a : Vec3) (u v : Three) → Are a u v → Are (neg a) v u
 unfolding neg
-vec_opposite a u v p = record {
-  x = opposite a.x _ _ p.x;
-  y = opposite a.y _ _ p.y;
-  z = opposite a.z _ _ p.z;
+Are-neg a u v p = record {
+  x = Is-neg a.x _ _ p.x;
+  y = Is-neg a.y _ _ p.y;
+  z = Is-neg a.z _ _ p.z;
 }
 
-pub vec_multiple : (a : Vec3) (k : ℤ) (u v : Three) (s t : ℕ) → Are a u v → Is k s t → Are (times a k) (multiples u v s t) (multiples u v t s)
+pub Are-times : (a : Vec3) (k : ℤ) (u v : Three) (s t : ℕ) → Are a u v → Is k s t → Are (times a k) (multiples u v s t) (multiples u v t s)
 unfolding times
-vec_multiple a k u v s t p q = record {
-  x = product a.x k _ _ _ _ p.x q;
-  y = product a.y k _ _ _ _ p.y q;
-  z = product a.z k _ _ _ _ p.z q;
+Are-times a k u v s t p q = record {
+  x = Is-mul a.x k _ _ _ _ p.x q;
+  y = Is-mul a.y k _ _ _ _ p.y q;
+  z = Is-mul a.z k _ _ _ _ p.z q;
 }
 
-pub vec_cross : (a b : Vec3) (u v s t : Three) → Are a u v → Are b s t → Are (cross a b) (minors u v s t) (minors u v t s)
+pub Are-cross : (a b : Vec3) (u v s t : Three) → Are a u v → Are b s t → Are (cross a b) (minors u v s t) (minors u v t s)
 unfolding cross
-vec_cross a b u v s t p q = record {
-  x = difference _ _ _ _ _ _ (product a.y b.z _ _ _ _ p.y q.z) (product a.z b.y _ _ _ _ p.z q.y);
-  y = difference _ _ _ _ _ _ (product a.z b.x _ _ _ _ p.z q.x) (product a.x b.z _ _ _ _ p.x q.z);
-  z = difference _ _ _ _ _ _ (product a.x b.y _ _ _ _ p.x q.y) (product a.y b.x _ _ _ _ p.y q.x);
+Are-cross a b u v s t p q = record {
+  x = Is-sub _ _ _ _ _ _ (Is-mul a.y b.z _ _ _ _ p.y q.z) (Is-mul a.z b.y _ _ _ _ p.z q.y);
+  y = Is-sub _ _ _ _ _ _ (Is-mul a.z b.x _ _ _ _ p.z q.x) (Is-mul a.x b.z _ _ _ _ p.x q.z);
+  z = Is-sub _ _ _ _ _ _ (Is-mul a.x b.y _ _ _ _ p.x q.y) (Is-mul a.y b.x _ _ _ _ p.y q.x);
 }
 
-pub vec_dot : (a b : Vec3) (u v s t : Three) → Are a u v → Are b s t → Is (dot a b) (dots u v s t) (dots u v t s)
+pub Is-dot : (a b : Vec3) (u v s t : Three) → Are a u v → Are b s t → Is (dot a b) (dots u v s t) (dots u v t s)
 unfolding dot
-vec_dot a b u v s t p q =
-    sum _ _ _ _ _ _
-    (sum _ _ _ _ _ _ (product a.x b.x _ _ _ _ p.x q.x) (product a.y b.y _ _ _ _ p.y q.y))
-    (product a.z b.z _ _ _ _ p.z q.z)
+Is-dot a b u v s t p q =
+    Is-add _ _ _ _ _ _
+    (Is-add _ _ _ _ _ _ (Is-mul a.x b.x _ _ _ _ p.x q.x) (Is-mul a.y b.y _ _ _ _ p.y q.y))
+    (Is-mul a.z b.z _ _ _ _ p.z q.z)
 
 -- ---- scalar and vector products
 pub dot_comm : (a b : Vec3) → dot a b ≡ dot b a
 dot_comm a b =
     same_by _ _ _ _ _ _
-    (vec_dot a b _ _ _ _ (vec_parts a) (vec_parts b))
-    (vec_dot b a _ _ _ _ (vec_parts b) (vec_parts a))
+    (Is-dot a b _ _ _ _ (Are-parts a) (Are-parts b))
+    (Is-dot b a _ _ _ _ (Are-parts b) (Are-parts a))
     (omega arith)
 
 pub dot-add : (a b c : Vec3) → dot a (add b c) ≡ dot a b +ℤ dot a c
 dot-add a b c =
     same_by _ _ _ _ _ _
-    (vec_dot a (add b c) _ _ _ _ (vec_parts a) (vec_sum b c _ _ _ _ (vec_parts b) (vec_parts c)))
-    (sum (dot a b) (dot a c) _ _ _ _ (vec_dot a b _ _ _ _ (vec_parts a) (vec_parts b)) (vec_dot a c _ _ _ _ (vec_parts a) (vec_parts c)))
+    (Is-dot a (add b c) _ _ _ _ (Are-parts a) (Are-add b c _ _ _ _ (Are-parts b) (Are-parts c)))
+    (Is-add (dot a b) (dot a c) _ _ _ _ (Is-dot a b _ _ _ _ (Are-parts a) (Are-parts b)) (Is-dot a c _ _ _ _ (Are-parts a) (Are-parts c)))
     (omega arith)
 
 pub dot-sub : (a b c : Vec3) → dot a (sub b c) ≡ dot a b -ℤ dot a c
 dot-sub a b c =
     same_by _ _ _ _ _ _
-    (vec_dot a (sub b c) _ _ _ _ (vec_parts a) (vec_difference b c _ _ _ _ (vec_parts b) (vec_parts c)))
-    (difference (dot a b) (dot a c) _ _ _ _ (vec_dot a b _ _ _ _ (vec_parts a) (vec_parts b)) (vec_dot a c _ _ _ _ (vec_parts a) (vec_parts c)))
+    (Is-dot a (sub b c) _ _ _ _ (Are-parts a) (Are-sub b c _ _ _ _ (Are-parts b) (Are-parts c)))
+    (Is-sub (dot a b) (dot a c) _ _ _ _ (Is-dot a b _ _ _ _ (Are-parts a) (Are-parts b)) (Is-dot a c _ _ _ _ (Are-parts a) (Are-parts c)))
     (omega arith)
 
 pub dot-times : (a b : Vec3) (k : ℤ) → dot a (times b k) ≡ dot a b *ℤ k
 dot-times a b k =
     same_by _ _ _ _ _ _
-    (vec_dot a (times b k) _ _ _ _ (vec_parts a) (vec_multiple b k _ _ _ _ (vec_parts b) (parts k)))
-    (product (dot a b) k _ _ _ _ (vec_dot a b _ _ _ _ (vec_parts a) (vec_parts b)) (parts k))
+    (Is-dot a (times b k) _ _ _ _ (Are-parts a) (Are-times b k _ _ _ _ (Are-parts b) (Is-parts k)))
+    (Is-mul (dot a b) k _ _ _ _ (Is-dot a b _ _ _ _ (Are-parts a) (Are-parts b)) (Is-parts k))
     (omega arith)
 
 -- a turn of the three vectors keeps their triple product
 pub triple_turn : (a b c : Vec3) → dot a (cross b c) ≡ dot b (cross c a)
 triple_turn a b c =
     same_by _ _ _ _ _ _
-    (vec_dot a (cross b c) _ _ _ _ (vec_parts a) (vec_cross b c _ _ _ _ (vec_parts b) (vec_parts c)))
-    (vec_dot b (cross c a) _ _ _ _ (vec_parts b) (vec_cross c a _ _ _ _ (vec_parts c) (vec_parts a)))
+    (Is-dot a (cross b c) _ _ _ _ (Are-parts a) (Are-cross b c _ _ _ _ (Are-parts b) (Are-parts c)))
+    (Is-dot b (cross c a) _ _ _ _ (Are-parts b) (Are-cross c a _ _ _ _ (Are-parts c) (Are-parts a)))
     (omega arith)
 
 -- and an exchange of two of them turns its sign
 pub triple_exchange : (a b c : Vec3) → dot a (cross b c) ≡ neg_ℤ (dot b (cross a c))
 triple_exchange a b c =
     same_by _ _ _ _ _ _
-    (vec_dot a (cross b c) _ _ _ _ (vec_parts a) (vec_cross b c _ _ _ _ (vec_parts b) (vec_parts c)))
-    (opposite (dot b (cross a c)) _ _ (vec_dot b (cross a c) _ _ _ _ (vec_parts b) (vec_cross a c _ _ _ _ (vec_parts a) (vec_parts c))))
+    (Is-dot a (cross b c) _ _ _ _ (Are-parts a) (Are-cross b c _ _ _ _ (Are-parts b) (Are-parts c)))
+    (Is-neg (dot b (cross a c)) _ _ (Is-dot b (cross a c) _ _ _ _ (Are-parts b) (Are-cross a c _ _ _ _ (Are-parts a) (Are-parts c))))
     (omega arith)
 
 -- the vector product is at right angles to both of its vectors
 pub dot-cross_left : (a b : Vec3) → dot a (cross a b) ≡ pos 0
 dot-cross_left a b =
     same_by _ _ _ _ 0 0
-    (vec_dot a (cross a b) _ _ _ _ (vec_parts a) (vec_cross a b _ _ _ _ (vec_parts a) (vec_parts b)))
+    (Is-dot a (cross a b) _ _ _ _ (Are-parts a) (Are-cross a b _ _ _ _ (Are-parts a) (Are-parts b)))
     (record { is = omega arith })
     (omega arith)
 
 pub dot-cross_right : (a b : Vec3) → dot b (cross a b) ≡ pos 0
 dot-cross_right a b =
     same_by _ _ _ _ 0 0
-    (vec_dot b (cross a b) _ _ _ _ (vec_parts b) (vec_cross a b _ _ _ _ (vec_parts a) (vec_parts b)))
+    (Is-dot b (cross a b) _ _ _ _ (Are-parts b) (Are-cross a b _ _ _ _ (Are-parts a) (Are-parts b)))
     (record { is = omega arith })
     (omega arith)

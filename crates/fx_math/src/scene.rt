@@ -3,8 +3,8 @@ ghost use Rattle.std.specs.Prelude.{◌≡◌, ◌<◌, length, slice_get};
 use crate::vectors::Vec3;
 use std::marker::Model;
 
-/// Where a triangle or a sphere stands in its scene. Of hits at one depth the one of the lower place counts, compared by
-/// the three numbers in order.
+/// Where a triangle or a sphere stands in its scene. Places are compared by their three numbers in order; of hits at one
+/// depth the one of the lower place counts.
 #[derive(Clone, Copy, Debug, PartialEq, Eq, PartialOrd, Ord)]
 pub struct Place {
     /// 0 for the world's own surfaces, i + 1 for element i of the world's instances.
@@ -15,7 +15,7 @@ pub struct Place {
     pub prim: u32,
 }
 
-/// What a ray can hit, in world space.
+/// What a ray can hit, in world space and in units of 1/65536.
 #[derive(Clone, Copy, Debug, PartialEq, Eq)]
 pub enum Shape {
     /// Three vertices, within 2^28.
@@ -24,27 +24,32 @@ pub enum Shape {
     Sphere(Vec3, i64),
 }
 
-/// A camera: its kind, and each number as it was committed or by default (ANARI 1.0 Specification, Camera).
+/// A camera: its kind, and each number as it was committed or by default (ANARI 1.0 Specification, Camera). Numbers
+/// count 1/65536. The position is within 2^28; the direction, and its vector product with `up`, are not zero.
 #[derive(Clone, Copy, Debug, PartialEq, Eq)]
 pub enum CameraRow {
     Orthographic {
         position: Vec3,
         direction: Vec3,
         up: Vec3,
+        /// Width by height of the image, 1 to 2^20.
         aspect: i32,
+        /// The height of the image in the world, 1 to 2^26.
         height: i32,
     },
     Perspective {
         position: Vec3,
         direction: Vec3,
         up: Vec3,
+        /// Width by height of the image, 1 to 2^20.
         aspect: i32,
-        /// The tangent of half the field of view from bottom to top.
+        /// The tangent of half the field of view from bottom to top, 1 to 2^20.
         tan_half_fovy: i32,
     },
 }
 
-/// A light in world space (ANARI 1.0 Specification, Light).
+/// A light in world space (ANARI 1.0 Specification, Light). Numbers count 1/65536; colours, irradiance and intensity are
+/// not negative.
 #[derive(Clone, Copy, Debug, PartialEq, Eq)]
 pub enum LightRow {
     /// Light that goes everywhere along `direction`, which is within 2^48.
@@ -77,12 +82,14 @@ impl Model for LightList {
 }
 
 impl LightList {
+    /// The list of `lights`, in their order.
     pub fn new(lights: Vec<LightRow>) -> Self
         ensures { result ≡ lights.items }
     {
         LightList { lights }
     }
 
+    /// The number of lights.
     pub fn len(&self) -> u64
         ensures { result ≡ length self.now }
     {
@@ -97,7 +104,7 @@ impl LightList {
         &self.lights[i as usize]
     }
 
-    /// The same lights, without the list's type.
+    /// The lights, given back as they were taken.
     pub fn into_vec(self) -> Vec<LightRow>
         ensures { result.items ≡ self }
     {
@@ -105,7 +112,8 @@ impl LightList {
     }
 }
 
-/// What lights a scene, and what stands behind it: colours and radiances in 1/65536, none of them negative.
+/// What lights a scene, and what stands behind it (ANARI 1.0 Specification, Renderer): colours and radiances in 1/65536,
+/// none of them negative.
 #[derive(Debug, Drop)]
 pub struct Lighting {
     pub lights: LightList,

@@ -1,6 +1,7 @@
 use Rattle.std.proofs.Common.{◌^◌, ◌∙◌, arith, rules}
 use Rattle.fx_math.specs.Vec3.{truncated}
-use Rattle.fx_math.proofs.Sizes.{abs_x, abs_y, abs_z, kept, read_abs, read_quotient, same_vec}
+use Rattle.fx_math.proofs.Kept.{kept, read_abs, read_quotient}
+use Rattle.fx_math.proofs.Sizes.{abs_x, abs_y, abs_z, same_vec}
 use Rattle.fx_math.proofs.directions.halved.Goals as goal
 
 pub halved_number-requires-clause-room : goal.halved_number-requires-clause-room

@@ -1,6 +1,7 @@
 use Rattle.std.proofs.Common.{rules}
 use Rattle.fx_math.specs.Vec3.{truncated}
-use Rattle.fx_math.proofs.Sizes.{kept_quotient, same_vec}
+use Rattle.fx_math.proofs.Kept.{kept_quotient}
+use Rattle.fx_math.proofs.Sizes.{same_vec}
 use Rattle.fx_math.proofs.directions.truncated.Goals as goal
 
 pub returns : goal.returns

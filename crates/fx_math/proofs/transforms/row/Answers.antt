@@ -1,7 +1,8 @@
 use Rattle.std.proofs.Common.{◌^◌, rules, w64}
 use Rattle.std.proofs.lemmas.Int.{to_z-of_z}
 use Rattle.fx_math.specs.Mat34.{row}
-use Rattle.fx_math.proofs.Sizes.{kept, reach_within, same_vec}
+use Rattle.fx_math.proofs.Kept.{kept}
+use Rattle.fx_math.proofs.Sizes.{reach_within, same_vec}
 use Rattle.fx_math.proofs.transforms.row.Goals as goal
 
 pub returns-clause-value : goal.returns-clause-value

@@ -2,7 +2,8 @@ use Rattle.std.proofs.Common.{ℤ, pos, ◌*◌, ◌^◌, ◌≤◌, ◌*ℤ◌,
 use Rattle.std.proofs.lemmas.Int.{ints, to_z-of_z}
 use Rattle.std.specs.Int.{int_div_euclid}
 use Rattle.fx_math.specs.Mat34.{scaled_radius}
-use Rattle.fx_math.proofs.Sizes.{abs-mul_le, kept, read_product}
+use Rattle.fx_math.proofs.Kept.{kept, read_product}
+use Rattle.fx_math.proofs.Sizes.{abs-mul_le}
 use Rattle.fx_math.proofs.transforms.scaled_radius.Goals as goal
 use mir.Syntax.{w128}
 

@@ -1,7 +1,8 @@
 use Rattle.std.proofs.Common.{arith, ◌≡◌, ◌*ℤ◌, ◌∙◌, rules}
 use Rattle.std.proofs.lemmas.Int.{to_z-of_z}
 use Rattle.fx_math.specs.Vec3.{cross}
-use Rattle.fx_math.proofs.Sizes.{abs_x, abs_y, abs_z, cross_fits_x, cross_fits_y, cross_fits_z, product_room, reach-cross, read_product, same_vec}
+use Rattle.fx_math.proofs.Kept.{cross_fits_x, cross_fits_y, cross_fits_z, product_room, read_product}
+use Rattle.fx_math.proofs.Sizes.{abs_x, abs_y, abs_z, reach-cross, same_vec}
 use Rattle.fx_math.proofs.vectors.cross.Goals as goal
 
 pub product-requires : goal.product-requires

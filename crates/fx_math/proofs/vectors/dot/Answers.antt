@@ -1,7 +1,8 @@
 use Rattle.std.proofs.Common.{◌≡◌, ◌*ℤ◌, ◌∙◌, rules}
 use Rattle.std.proofs.lemmas.Int.{to_z-of_z}
 use Rattle.fx_math.specs.Vec3.{dot}
-use Rattle.fx_math.proofs.Sizes.{abs-dot, dot_fits, read_product}
+use Rattle.fx_math.proofs.Kept.{dot_fits, read_product}
+use Rattle.fx_math.proofs.Sizes.{abs-dot}
 use Rattle.fx_math.proofs.vectors.dot.Goals as goal
 
 pub overflow_add-result : goal.overflow_add-result

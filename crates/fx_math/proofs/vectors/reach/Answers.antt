@@ -1,6 +1,6 @@
 use Rattle.std.proofs.Common.{◌≡◌, ◌∙◌, unsigned_abs, arith, rules}
 use Rattle.fx_math.specs.Vec3.{reach}
-use Rattle.fx_math.proofs.Sizes.{read_abs}
+use Rattle.fx_math.proofs.Kept.{read_abs}
 use Rattle.fx_math.proofs.vectors.reach.Goals as goal
 
 pub returns : goal.returns

@@ -1,6 +1,7 @@
 use Rattle.std.proofs.Common.{rules}
 use Rattle.fx_math.specs.Vec3.{scaled_down}
-use Rattle.fx_math.proofs.Sizes.{same_vec, shifted, reach-scaled_down}
+use Rattle.fx_math.proofs.Kept.{shifted}
+use Rattle.fx_math.proofs.Sizes.{same_vec, reach-scaled_down}
 use Rattle.fx_math.proofs.vectors.scaled_down.Goals as goal
 
 pub returns-clause-value : goal.returns-clause-value

@@ -1,7 +1,8 @@
 use Rattle.std.proofs.Common.{◌≡◌, ◌*ℤ◌, ◌∙◌, rules}
 use Rattle.std.proofs.Math.Nat.{le_refl}
 use Rattle.fx_math.specs.Vec3.{times}
-use Rattle.fx_math.proofs.Sizes.{abs_x, abs_y, abs_z, kept, product_room, read_product, reach-times, same_vec}
+use Rattle.fx_math.proofs.Kept.{kept, product_room, read_product}
+use Rattle.fx_math.proofs.Sizes.{abs_x, abs_y, abs_z, reach-times, same_vec}
 use Rattle.fx_math.proofs.vectors.times.Goals as goal
 
 pub product-requires : goal.product-requires
