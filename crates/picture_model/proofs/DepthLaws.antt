@@ -1,5 +1,5 @@
 -- The depth number that `depth` finds is the one that `IsDepth` describes, and where it finds none there is none.
-use Rattle.std.proofs.Common.{◌≡◌, ℕ, zero, suc, ◌+◌, ◌*◌, ◌/◌, ◌^◌, ◌<◌, ◌≤◌, ℤ, pos, negsuc, ◌+ℤ◌, ◌*ℤ◌, ◌≤ℤ◌, ◌<ℤ◌, int_lt, int_le, unsigned_abs, Bool, true, false, ◌&&◌, cond, leb, Option, Some, None, MatchOption, arith, refl, ap, sym, ◌∙◌, inl, inr}
+use Rattle.std.proofs.Common.{◌≡◌, ℕ, zero, suc, ◌+◌, ◌*◌, ◌/◌, ◌^◌, ◌<◌, ◌≤◌, ℤ, pos, negsuc, ◌+ℤ◌, ◌*ℤ◌, ◌≤ℤ◌, ◌<ℤ◌, int_lt, unsigned_abs, Bool, true, false, ◌&&◌, cond, leb, Option, Some, None, MatchOption, arith, refl, ap, sym, ◌∙◌, inl, inr}
 use Rattle.std.proofs.lemmas.Bool.Decides.{nat_tests}
 use Rattle.std.proofs.lemmas.Int.{ints}
 use Rattle.std.proofs.lemmas.Nat.{le-div}
@@ -8,7 +8,7 @@ use Rattle.fx_math.specs.declared.scene.Shape.{Shape}
 use Rattle.fx_math.specs.declared.scene.Shape.TheVariants.{Triangle, Sphere}
 use Rattle.fx_math.specs.declared.vectors.Ray.{Ray}
 use Rattle.fx_math.specs.declared.vectors.Vec3.{Vec3}
-use Rattle.picture_model.proofs.Spheres.{below_or_at, first_from-found, found_here, found_later, found_never}
+use Rattle.picture_model.proofs.Spheres.{from_le, to_le, below_or_at, first_from-found, found_here, found_later, found_never}
 use Rattle.picture_model.proofs.Nearness.{first_from-near}
 use Rattle.picture_model.specs.declared.depths.Crossing.{Crossing}
 use Rattle.picture_model.specs.Depths.{IsCrossedAt, IsDepth, IsEnteredAt, crossing, crossing_depth, depth, first_from, is_crossed, is_in_ball, sphere_depth, turned}
@@ -57,14 +57,8 @@ and_second false b h = absurd (cc)
 from_lt : (a b : ℤ) → int_lt a b ≡ true → a <ℤ b
 from_lt a b h = grind (arith, ints)
 
-from_le : (a b : ℤ) → int_le a b ≡ true → a ≤ℤ b
-from_le a b h = grind (arith, ints)
-
 to_lt : (a b : ℤ) → a <ℤ b → int_lt a b ≡ true
 to_lt a b h = grind (arith, ints)
-
-to_le : (a b : ℤ) → a ≤ℤ b → int_le a b ≡ true
-to_le a b h = grind (arith, ints)
 
 met : (c : Crossing) → is_crossed c ≡ true → IsMet c
 unfolding is_crossed

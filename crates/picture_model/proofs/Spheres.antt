@@ -87,10 +87,10 @@ distance_at-from ray centre s (suc n) h =
     rw e (le_trans _ _ _ before.0 before.1, distance_at-rises ray centre (s + n) before.1)
 
 -- ---- settled points
-from_le : (a b : ℤ) → int_le a b ≡ true → a ≤ℤ b
+pub from_le : (a b : ℤ) → int_le a b ≡ true → a ≤ℤ b
 from_le a b h = grind (arith, ints)
 
-to_le : (a b : ℤ) → a ≤ℤ b → int_le a b ≡ true
+pub to_le : (a b : ℤ) → a ≤ℤ b → int_le a b ≡ true
 to_le a b h = grind (arith, ints)
 
 from_not_le : (a b : ℤ) → int_le a b ≡ false → b ≤ℤ a
