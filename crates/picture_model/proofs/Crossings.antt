@@ -7,9 +7,6 @@ use mir.Syntax.{w128}
 use Rattle.picture_model.specs.declared.depths.Crossing.{Crossing}
 use Rattle.picture_model.specs.Depths.{is_crossed}
 
-pub product_within : (a b m n k : ℕ) → a ≤ m → b ≤ n → m * n ≤ k → a * b ≤ k
-product_within a b m n k p q h = let r = mul-le-mul p q in omega arith
-
 -- three times a product, as a scalar product has for its bound
 pub dot_within : (z : ℤ) (a b m n : ℕ) → unsigned_abs z ≤ 3 * (a * b) → a ≤ m → b ≤ n → m * n ≤ 2 ^ 94 → unsigned_abs z ≤ 2 ^ 96
 dot_within z a b m n s p q h = let r = mul-le-mul p q in omega arith

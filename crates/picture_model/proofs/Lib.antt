@@ -1,10 +1,13 @@
 pub mod Crossings
+pub mod DepthLaws
 pub mod HitLists
 pub mod HitOrder
 pub mod Lights
 pub mod Nearness
 pub mod Numbers
+pub mod PictureLaws
 pub mod PixelRows
+pub mod Sources
 pub mod Spheres
 pub mod Tilings
 pub mod PictureSizes

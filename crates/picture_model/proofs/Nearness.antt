@@ -55,7 +55,7 @@ first_from-next test n k s later e = by_test (test k) refl
     by_test true h = let same : Some k ≡ Some s = sym (found_here test n k h) ∙ e in let is : k ≡ s = cc in omega arith
     by_test false h = let bound = later (sym (found_later test n k h) ∙ e) in omega arith
 
-first_from-near : (test : ℕ → Bool) (n k s : ℕ) → first_from test n k ≡ Some s → s < k + n
+pub first_from-near : (test : ℕ → Bool) (n k s : ℕ) → first_from test n k ≡ Some s → s < k + n
 first_from-near test zero k s e = let none : None ≡ Some s = sym (found_never test k) ∙ e in absurd (cc)
 first_from-near test (suc n) k s e = first_from-next test n k s (first_from-near test n (suc k) s) e
 

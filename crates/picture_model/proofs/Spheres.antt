@@ -87,10 +87,10 @@ distance_at-from ray centre s (suc n) h =
     rw e (le_trans _ _ _ before.0 before.1, distance_at-rises ray centre (s + n) before.1)
 
 -- ---- settled points
-from_le : (a b : ℤ) → int_le a b ≡ true → a ≤ℤ b
+pub from_le : (a b : ℤ) → int_le a b ≡ true → a ≤ℤ b
 from_le a b h = grind (arith, ints)
 
-to_le : (a b : ℤ) → a ≤ℤ b → int_le a b ≡ true
+pub to_le : (a b : ℤ) → a ≤ℤ b → int_le a b ≡ true
 to_le a b h = grind (arith, ints)
 
 from_not_le : (a b : ℤ) → int_le a b ≡ false → b ≤ℤ a
@@ -135,14 +135,14 @@ pub found_never : (test : ℕ → Bool) (k : ℕ) → first_from test zero k ≡
 unfolding first_from
 found_never test k = refl
 
-below_or_at : (k s : ℕ) → k ≤ s → (k < s) ⊎ (k ≡ s)
+pub below_or_at : (k s : ℕ) → k ≤ s → (k < s) ⊎ (k ≡ s)
 below_or_at k s l = by_test (nat_lt k s) refl
   where
     by_test : (b : Bool) → nat_lt k s ≡ b → (k < s) ⊎ (k ≡ s)
     by_test true e = inl (grind (arith, nat_tests))
     by_test false e = inr (grind (arith, nat_tests))
 
-le_or_below : (j s : ℕ) → (j < s) ⊎ (s ≤ j)
+pub le_or_below : (j s : ℕ) → (j < s) ⊎ (s ≤ j)
 le_or_below j s = by_test (nat_lt j s) refl
   where
     by_test : (b : Bool) → nat_lt j s ≡ b → (j < s) ⊎ (s ≤ j)

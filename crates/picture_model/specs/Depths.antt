@@ -54,7 +54,8 @@ distance_at ray centre s = dot (from_centre ray centre s) (from_centre ray centr
 unfoldable pub is_in_ball : Ray → Vec3 → ℤ → ℕ → Bool
 is_in_ball ray centre radius s = int_le (distance_at ray centre s) (pos 65536 *ℤ radius *ℤ (pos 65536 *ℤ radius))
 
--- the ray's point at s lies in the ball, or the next one is no nearer to the centre
+-- the ray's point at s lies in the ball, or the next one is no nearer to its centre: what a search by halving may ask, since from the
+-- first such point on all are such points
 unfoldable pub is_settled : Ray → Vec3 → ℤ → ℕ → Bool
 is_settled ray centre radius s = is_in_ball ray centre radius s || int_le (distance_at ray centre s) (distance_at ray centre (s + 1))
 

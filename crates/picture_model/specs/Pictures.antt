@@ -49,9 +49,13 @@ row_of pixel_at rect y = in_a_row (λ x. pixel_at x y) rect.x0 rect.w
 unfoldable pub pixels_in : (ℕ → ℕ → List ℕ) → Rect → List ℕ
 pixels_in pixel_at rect = in_a_row (row_of pixel_at rect) rect.y0 rect.h
 
+-- the rectangle of all pixels of a frame of w by h
+abbrev pub whole : ℕ → ℕ → Rect
+whole w h = record { x0 = 0; y0 = 0; w = w; h = h }
+
 -- one picture of a scene
 unfoldable pub picture : Scene → Plane → List ℕ
-picture scene plane = pixels_in (pixel scene plane) (record { x0 = 0; y0 = 0; w = scene.width; h = scene.height })
+picture scene plane = pixels_in (pixel scene plane) (whole scene.width scene.height)
 
 -- the part of it that a tile shows
 unfoldable pub part : Scene → Plane → ℕ → List ℕ

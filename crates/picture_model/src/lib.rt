@@ -3,22 +3,28 @@
 #![tactic(auto)]
 
 mod depths;
+mod laws;
 mod limits;
 mod pictures;
 mod rays;
 mod records;
 mod search;
 mod shading;
-mod tiles;
-
+mod source;
 #[cfg(test)]
 mod tests;
+mod tiles;
 
 pub use depths::{Crossing, depth};
+pub use laws::{
+    depth_is_exact, hidden_hits_do_not_matter, misses_do_not_matter, nearest_of_groups,
+    rows_are_those_of_tiles,
+};
 pub use limits::is_scene_within;
 pub use pictures::{part, picture, pixel, shade};
 pub use rays::{Axes, camera_ray};
 pub use records::{Blend, Hit, HitRow, NO_ID, Plane, Primitive, PrimitiveList, Rect, Scene};
 pub use search::{hit_after, hits, is_nearer, nearer, nearest};
 pub use shading::{blend_hit, finish_blend, to_byte};
+pub use source::PrimSource;
 pub use tiles::{tile_count, tile_of, tile_rect};

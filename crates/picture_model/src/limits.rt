@@ -36,11 +36,20 @@ fn is_shape_within(shape: &Shape) -> bool
 fn is_primitive_within(primitive: &Primitive) -> bool
     ensures { IsTrue result ↔ IsPrimitiveWithin primitive.now }
 {
-    is_shape_within(&primitive.shape) && is_color(&primitive.color) && is_between(0, 65536, primitive.opacity as i64)
+    is_shape_within(&primitive.shape)
+        && is_color(&primitive.color)
+        && is_between(0, 65536, primitive.opacity as i64)
 }
 
 /// Position, direction, up, aspect and height or tangent of a camera.
-fn is_view_within(position: Vec3, direction: Vec3, up: Vec3, aspect: i32, extent: i32, most: u32) -> bool
+fn is_view_within(
+    position: Vec3,
+    direction: Vec3,
+    up: Vec3,
+    aspect: i32,
+    extent: i32,
+    most: u32,
+) -> bool
     ensures { IsTrue result ↔ IsViewWithin position direction up aspect extent most }
 {
     if !is_point(position) || reach(direction) > 1 << 31 || reach(up) > 1 << 31 {

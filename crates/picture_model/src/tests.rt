@@ -7,9 +7,13 @@ use std::alloc::{AllocError, Global};
 use std::process::Abort;
 
 const RED: [i32; 3] = [65536, 0, 0];
+
 const GREEN: [i32; 3] = [0, 65536, 0];
+
 const GREY: [i32; 3] = [52429, 52429, 52429];
+
 const WHITE: [i32; 3] = [65536, 65536, 65536];
+
 const OPAQUE: i32 = 65536;
 
 fn point(x: i64, y: i64, z: i64) -> Vec3 {
@@ -19,7 +23,11 @@ fn point(x: i64, y: i64, z: i64) -> Vec3 {
 /// A primitive of the world's own surface `surf`, whose id is `object_id`.
 fn primitive(surf: u32, shape: Shape, color: [i32; 3], opacity: i32, object_id: u32) -> Primitive {
     Primitive {
-        place: Place { inst: 0, surf, prim: 0 },
+        place: Place {
+            inst: 0,
+            surf,
+            prim: 0,
+        },
         shape,
         color,
         opacity,
@@ -30,7 +38,11 @@ fn primitive(surf: u32, shape: Shape, color: [i32; 3], opacity: i32, object_id: 
 
 /// A right triangle in the plane of x and y, with its corner at (-2, -2) and legs of four.
 fn corner_triangle() -> Shape {
-    Shape::Triangle(point(-131072, -131072, 0), point(131072, -131072, 0), point(-131072, 131072, 0))
+    Shape::Triangle(
+        point(-131072, -131072, 0),
+        point(131072, -131072, 0),
+        point(-131072, 131072, 0),
+    )
 }
 
 /// Parallel rays from one before the plane, in a window that is four high.
@@ -109,7 +121,10 @@ fn scene(rt: &impl Abort, alloc: Global, setup: &Setup) -> Result<Scene, AllocEr
 /// The colours and the object ids of all pixels.
 fn planes(rt: &impl Abort, alloc: Global, setup: &Setup) -> Result<(Vec<u8>, Vec<u8>), AllocError> {
     let made = scene(rt, alloc, setup)?;
-    Ok((picture(alloc, &made, Plane::Color)?, picture(alloc, &made, Plane::ObjectId)?))
+    Ok((
+        picture(alloc, &made, Plane::Color)?,
+        picture(alloc, &made, Plane::ObjectId)?,
+    ))
 }
 
 #[test]
@@ -123,12 +138,27 @@ fn a_triangle_is_hit_up_to_its_edges(rt: HostRuntime) -> Result<(), AllocError> 
     // By rows from the lower left: the diagonal is the edge, and lies on the middles of its pixels.
     let hit = [1, 1, 1, 1, 1, 1, 1, 0, 1, 1, 0, 0, 1, 0, 0, 0];
     for (i, hit) in hit.iter().enumerate() {
-        let want = if *hit == 1 { [255, 0, 0, 255] } else { [0, 0, 0, 0] };
-        assert!(rt; colors.get(4 * i..4 * i + 4) == Some(&want[..]), "pixel {i}");
+        let want = if *hit == 1 {
+            [255, 0, 0, 255]
+        } else {
+            [0, 0, 0, 0]
+        };
+        assert!(rt;
+            colors.get(4 * i..4 * i + 4) == Some(&want[..]),
+            "pixel {i}"
+        );
     }
     // A ray in the triangle's own plane misses it.
-    let upright = Shape::Triangle(point(0, -131072, 0), point(0, 131072, 0), point(0, 0, 32768));
-    let (colors, _) = planes(&rt, alloc, &before_black(&[primitive(0, upright, RED, OPAQUE, NO_ID)], parallel()))?;
+    let upright = Shape::Triangle(
+        point(0, -131072, 0),
+        point(0, 131072, 0),
+        point(0, 0, 32768),
+    );
+    let (colors, _) = planes(
+        &rt,
+        alloc,
+        &before_black(&[primitive(0, upright, RED, OPAQUE, NO_ID)], parallel()),
+    )?;
     assert_eq!(rt; colors.as_slice(), [0, 0, 0, 0].as_slice());
     Ok(())
 }
@@ -139,9 +169,15 @@ fn an_empty_scene_shows_its_background_and_no_ids(rt: HostRuntime) -> Result<(),
     let mut empty = before_black(&[], parallel());
     empty.background = [65536, 32768, 0];
     let made = scene(&rt, alloc, &empty)?;
-    assert_eq!(rt; picture(alloc, &made, Plane::Color)?.as_slice(), [255, 128, 0, 0].as_slice());
+    assert_eq!(rt;
+        picture(alloc, &made, Plane::Color)?.as_slice(),
+        [255, 128, 0, 0].as_slice()
+    );
     for plane in [Plane::PrimitiveId, Plane::ObjectId, Plane::InstanceId] {
-        assert_eq!(rt; picture(alloc, &made, plane)?.as_slice(), [255, 255, 255, 255].as_slice());
+        assert_eq!(rt;
+            picture(alloc, &made, plane)?.as_slice(),
+            [255, 255, 255, 255].as_slice()
+        );
     }
     Ok(())
 }
@@ -153,12 +189,42 @@ fn surfaces_lie_over_each_other_by_place_and_opacity(rt: HostRuntime) -> Result<
     let s = |surf, opacity| primitive(surf, corner_triangle(), RED, opacity, 11);
     let z = |surf| primitive(surf, corner_triangle(), GREEN, OPAQUE, 22);
     let cases = [
-        ("of two at one depth the lower place shows", [s(0, OPAQUE), z(1)], [255, 0, 0, 255], 11),
-        ("whatever their order in the list", [z(1), s(0, OPAQUE)], [255, 0, 0, 255], 11),
-        ("and the places the other way round", [z(0), s(1, OPAQUE)], [0, 255, 0, 255], 22),
-        ("half red before green", [s(0, half), z(1)], [128, 128, 0, 255], 11),
-        ("an opaque surface hides the rest", [z(0), s(1, half)], [0, 255, 0, 255], 22),
-        ("what lets all through is still the nearest", [s(0, 0), z(1)], [0, 255, 0, 255], 11),
+        (
+            "of two at one depth the lower place shows",
+            [s(0, OPAQUE), z(1)],
+            [255, 0, 0, 255],
+            11,
+        ),
+        (
+            "whatever their order in the list",
+            [z(1), s(0, OPAQUE)],
+            [255, 0, 0, 255],
+            11,
+        ),
+        (
+            "and the places the other way round",
+            [z(0), s(1, OPAQUE)],
+            [0, 255, 0, 255],
+            22,
+        ),
+        (
+            "half red before green",
+            [s(0, half), z(1)],
+            [128, 128, 0, 255],
+            11,
+        ),
+        (
+            "an opaque surface hides the rest",
+            [z(0), s(1, half)],
+            [0, 255, 0, 255],
+            22,
+        ),
+        (
+            "what lets all through is still the nearest",
+            [s(0, 0), z(1)],
+            [0, 255, 0, 255],
+            11,
+        ),
     ];
     for (name, primitives, color, id) in cases {
         let (colors, ids) = planes(&rt, alloc, &before_black(&primitives, parallel()))?;
@@ -193,7 +259,11 @@ fn lights_shine_on_spheres_and_triangles(rt: HostRuntime) -> Result<(), AllocErr
         lit.lights = &lamps;
         lit.ambient_radiance = 0;
         let (colors, _) = planes(&rt, alloc, &lit)?;
-        assert_eq!(rt; colors.as_slice(), [byte, 0, 0, 255].as_slice(), "at {intensity}");
+        assert_eq!(rt;
+            colors.as_slice(),
+            [byte, 0, 0, 255].as_slice(),
+            "at {intensity}"
+        );
     }
     Ok(())
 }

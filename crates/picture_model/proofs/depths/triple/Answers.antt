@@ -1,6 +1,7 @@
 use Rattle.std.proofs.Common.{◌+◌, ◌^◌, arith}
 use Rattle.fx_math.specs.Vec3.{reach}
-use Rattle.picture_model.proofs.Crossings.{dot_within, kept, product_within}
+use Rattle.picture_model.proofs.Crossings.{dot_within, kept}
+use Rattle.picture_model.proofs.Numbers.{product_within}
 use Rattle.picture_model.proofs.depths.triple.Goals as goal
 
 pub cross-requires : goal.cross-requires
