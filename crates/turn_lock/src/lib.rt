@@ -1,0 +1,12 @@
+//! A turn: one state behind one atomic word, and passes that remember its history.
+#![tactic(auto)]
+
+mod journaled;
+mod pass;
+mod rule;
+mod turn;
+mod view;
+
+pub use journaled::Journaled;
+pub use pass::Pass;
+pub use turn::{Held, Turn};

@@ -1,0 +1,25 @@
+//! A turn, and the state that is held.
+ghost use Rattle.std.specs.Prelude.{◌≡◌, None, [], ◌∷◌};
+
+use crate::journaled::Journaled;
+use crate::rule::TurnRule;
+use crate::view::View;
+use atomic_table::{Seat, Table};
+use std::alloc::Global;
+use std::snapshot::Snapshot;
+
+/// One state, and a word that says whether it is in hand.
+#[derive(Drop)]
+pub struct Turn<S: Journaled> {
+    pub(crate) table: Table<Option<S>, View<S::Entry, S::Fixed>, Snapshot<S>, TurnRule<S>, Global>,
+    pub ghost one_word: { table.shared.table_id.words ≡ 1 },
+    pub ghost one_slot: { table.shared.table_id.slots ≡ 1 },
+}
+
+/// The state in hand.
+pub struct Held<S: Journaled> {
+    /// The state.
+    pub state: S,
+    pub(crate) seat: Seat<Option<S>, View<S::Entry, S::Fixed>>,
+    pub ghost out: { seat.me.1 ≡ (0, None) ∷ [] },
+}
