@@ -30,3 +30,12 @@ module _ {A : Type 0} where
       let first = twice 0 x refl in
       let rest = sum_double f g xs (λ i v at. twice (suc i) v at) in
       omega (arith, sum_by-cons f x xs, sum_by-cons g x xs)
+
+  pub at_length : (xs : List A) (i : ℕ) (v : A) → get_elem? xs i ≡ some v → i < length xs
+  at_length [] i v at = absurd (some-ne-none v (sym at))
+  at_length (x ∷ xs) zero v at = omega arith
+  at_length (x ∷ xs) (suc i) v at = let rest = at_length xs i v at in omega arith
+
+  -- a value in place of another that counts as much
+  pub sum_same : (f : A → ℕ) (xs : List A) (i : ℕ) (v w : A) → get_elem? xs i ≡ some v → f w ≡ f v → sum_by f (set xs i w) ≡ sum_by f xs
+  sum_same f xs i v w at same = let e = sum_set f xs i v w at in omega arith
