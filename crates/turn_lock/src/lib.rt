@@ -4,6 +4,7 @@
 mod journaled;
 mod pass;
 mod rule;
+mod steps;
 mod turn;
 mod view;
 

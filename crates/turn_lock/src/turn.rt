@@ -1,10 +1,10 @@
 //! A turn, and the state that is held.
-ghost use Rattle.std.specs.Prelude.{◌≡◌, None, [], ◌∷◌};
+ghost use Rattle.std.specs.Prelude.{◌≡◌, ◌<◌, None, true, [], ◌∷◌};
 
 use crate::journaled::Journaled;
 use crate::rule::TurnRule;
 use crate::view::View;
-use atomic_table::{Seat, Table};
+use atomic_table::{Badge, Seat, Table};
 use std::alloc::Global;
 use std::snapshot::Snapshot;
 
@@ -21,5 +21,9 @@ pub struct Held<S: Journaled> {
     /// The state.
     pub state: S,
     pub(crate) seat: Seat<Option<S>, View<S::Entry, S::Fixed>>,
+    // The pass's badge as it stands while the state is in hand, so that the two belong together.
+    pub(crate) stub: Snapshot<Badge<View<S::Entry, S::Fixed>>>,
     pub ghost out: { seat.me.1 ≡ (0, None) ∷ [] },
+    pub ghost holding: { seat.me.0.holding ≡ true },
+    pub ghost unspent: { 0 < seat.me.0.share.parts },
 }
