@@ -5,7 +5,7 @@ use native.Mathlib.Decide.{ℕ_discrete, dec_lt}
 use Rattle.std.proofs.lemmas.Bool.Decides.{nat_tests}
 use Rattle.std.proofs.lemmas.List.Sums.{sum_by-cons, sum_by-append}
 use Rattle.std.proofs.Math.Seq.{drop-append_seam}
-use Rattle.turn_lock.specs.Histories.{Extends, added, place_if, places_from, places, new_places, times, AreRising, with_place, merged, longer}
+use Rattle.turn_lock.specs.Histories.{Extends, added, place_if, places_from, places, new_places, times, AreRising, AreApart, with_place, merged, longer}
 
 pub times-same : (p : ℕ) (xs : List ℕ) → times p (p ∷ xs) ≡ 1 + times p xs
 times-same p xs = sum_by-cons (λ q. cond (q == p) 1 0) p xs ∙ ap (λ b. cond b 1 0 + times p xs) (eq-eqb p p refl)
@@ -73,9 +73,9 @@ rising-with_place low high p (x ∷ xs) above within apart rising = by_test (ris
         ⊎_elim
         (λ (same : (x ≡ p) × (times p (x ∷ xs) ≡ 1 + times p xs)). absurd (omega (arith, same.1)))
         (λ (other : (x ≢ p) × (times p (x ∷ xs) ≡ times p xs)).
-            let next : x < p = omega (arith, other.0) in
-            let none : times p xs ≡ 0 = omega (arith, other.1) in
-            (rising.0, rising.1, later next within none rising.2))
+        let next : x < p = omega (arith, other.0) in
+        let none : times p xs ≡ 0 = omega (arith, other.1) in
+        (rising.0, rising.1, later next within none rising.2))
         (times-cons p x xs)
 
 -- two rising lists that have no place in common, in one
@@ -84,11 +84,17 @@ rising-merged low high [] ys one other apart = other
 rising-merged low high (x ∷ xs) ys one other apart =
     let here : times x (merged xs ys) ≡ 0 = omega (arith, apart x, times-same x xs, times-merged x xs ys) in
     rising-with_place low high x (merged xs ys) one.0 one.1 here
-        (rising-merged low high xs ys (rising-wider x low high high xs (omega (arith, one.0)) (omega arith) one.2) other
-            (λ p. ⊎_elim
-                (λ (e : (x ≡ p) × (times p (x ∷ xs) ≡ 1 + times p xs)). omega (arith, e.1, apart p))
-                (λ (e : (x ≢ p) × (times p (x ∷ xs) ≡ times p xs)). omega (arith, e.1, apart p))
-                (times-cons p x xs)))
+    (rising-merged low high xs ys (rising-wider x low high high xs (omega (arith, one.0)) (omega arith) one.2) other
+    (λ p. ⊎_elim
+    (λ (e : (x ≡ p) × (times p (x ∷ xs) ≡ 1 + times p xs)). omega (arith, e.1, apart p))
+    (λ (e : (x ≢ p) × (times p (x ∷ xs) ≡ times p xs)). omega (arith, e.1, apart p))
+    (times-cons p x xs)))
+
+-- lists whose places rise together have none in common
+pub apart-merged : (low high : ℕ) (xs ys : List ℕ) → AreRising low high (merged xs ys) → AreApart xs ys
+apart-merged low high xs ys rising place =
+    let once : times place xs + times place ys ≤ 1 = omega (arith, times-rising place low high (merged xs ys) rising, times-merged place xs ys) in
+    dite (ℕ_discrete (times place xs) 0) (λ none_here. inl none_here) (λ here. inr (omega (arith, here)))
 
 -- rising lists with the same places are one list
 pub rising-same : (low high high' : ℕ) (xs ys : List ℕ) → AreRising low high xs → AreRising low high' ys → ((p : ℕ) → times p xs ≡ times p ys) → xs ≡ ys
@@ -105,9 +111,9 @@ rising-same low high high' (x ∷ xs) (y ∷ ys) one other same =
     rest_same : (p : ℕ) → x ≡ y → times p xs ≡ times p ys
     rest_same p head = subst (λ k. times p (x ∷ xs) ≡ times p (k ∷ ys) → times p xs ≡ times p ys) head
         (λ e. ⊎_elim
-            (λ (here : (x ≡ p) × (times p (x ∷ xs) ≡ 1 + times p xs)). subst (λ q. times q (x ∷ xs) ≡ times q (x ∷ ys) → times q xs ≡ times q ys) here.0 (λ e'. omega (arith, e', times-same x xs, times-same x ys)) e)
-            (λ (there : (x ≢ p) × (times p (x ∷ xs) ≡ times p xs)). sym there.1 ∙ e ∙ times-other p x ys there.0)
-            (times-cons p x xs))
+        (λ (here : (x ≡ p) × (times p (x ∷ xs) ≡ 1 + times p xs)). subst (λ q. times q (x ∷ xs) ≡ times q (x ∷ ys) → times q xs ≡ times q ys) here.0 (λ e'. omega (arith, e', times-same x xs, times-same x ys)) e)
+        (λ (there : (x ≢ p) × (times p (x ∷ xs) ≡ times p xs)). sym there.1 ∙ e ∙ times-other p x ys there.0)
+        (times-cons p x xs))
         (same p)
 
 module _ {E : Type 0} (by : E → Option ℕ) where
@@ -140,7 +146,7 @@ module _ {E : Type 0} (by : E → Option ℕ) where
   pub rising-new_places : (before after : List E) → Extends before after → AreRising (length before) (length after) (new_places by before after)
   rising-new_places before after (gained, e) = subst (λ h. AreRising (length before) (length h) (new_places by before h)) (sym e)
       (subst (λ l. AreRising (length before) (length (before ++ gained)) (places_from by (length before + 1) l)) (sym (drop-append_seam before gained))
-        (subst (λ n. AreRising (length before) n (places_from by (length before + 1) gained)) (sym (length-append before gained)) (rising-places_from (length before) gained)))
+      (subst (λ n. AreRising (length before) n (places_from by (length before + 1) gained)) (sym (length-append before gained)) (rising-places_from (length before) gained)))
 
 module _ {E : Type 0} where
   pub extends-same : (xs : List E) → Extends xs xs

@@ -14,8 +14,9 @@ use Rattle.std.proofs.Math.Nat.{pow-succ'}
 use Rattle.turn_lock.specs.declared.view.Share.{Share}
 use Rattle.turn_lock.specs.declared.view.View.{View}
 use Rattle.turn_lock.specs.Histories.{Extends, places, new_places, times, AreRising, merged, longer, callers, place_if, places_from}
-use Rattle.turn_lock.specs.Views.{parts_at, half, both_shares, IsWhole, first_view, spent_view, entering, leaving, halved, beside, joined}
-use Rattle.turn_lock.specs.Rule.{Knows, IsHome, IsHolding, Kept, Sat, Grabs, LetsGo}
+use Rattle.turn_lock.specs.Views.{parts_at, half, both_shares, IsWhole, first_view, spent_view, view_in, entering, leaving, halved, beside, joined}
+use Rattle.std.proofs.lemmas.List.{set-get_or}
+use Rattle.turn_lock.specs.Rule.{Knows, IsHome, IsHolding, Kept, Sat, Grabs, Looks, LetsGo}
 use Rattle.turn_lock.proofs.SumLaws.{sum_set, sum_same, sum_at, sum_none, sum_double, at_length}
 use Rattle.turn_lock.proofs.ShareLaws.{finer, parts_at-half, parts_at-both, parts_at-whole, parts_at-none}
 use Rattle.turn_lock.proofs.PlaceLaws.{times-append, times-merged, times-rising, rising-wider, rising-append, rising-merged, rising-same, rising-places, places-extended, rising-new_places, extends-same, extends-later, extends-length, longer-extends, length-longer}
@@ -77,7 +78,7 @@ module _ {S E F : Type 0} (history : S → List E) (fixed : S → F) (by : E →
     keeps,
     tt,
     (let same : either (eqb (suc n) 0) 1 (suc n) ≡ suc n = ap (λ b. either b 1 (suc n)) (ne_eqb (suc n) 0 (λ e. omega (arith, e))) in
-      subst (λ (t : ℕ × List (View E F)). Rule record { words = t.0 ∷ []; homes = homes; views = t.1 }) (λ i. (sym same i, sym (set_again views id v at) i)) k),
+        subst (λ (t : ℕ × List (View E F)). Rule record { words = t.0 ∷ []; homes = homes; views = t.1 }) (λ i. (sym same i, sym (set_again views id v at) i)) k),
     ((λ none. absurd (omega (arith, none))), (λ _. refl)),
   )
 
@@ -86,6 +87,17 @@ module _ {S E F : Type 0} (history : S → List E) (fixed : S → F) (by : E →
   grabs slots id me unspent s k deep at fits =
       subst (λ ws. (kept : Rule record { words = ws; homes = s.homes; views = s.views }) → ws ≡ kept.word ∷ [] → GrabGoes ws s.homes s.views id me.0 me.1 slots) (sym k.words)
       (λ kept same. grab_goes k.word s.homes s.views id me.0 me.1 slots kept (cc same) at unspent) k k.words
+
+  -- look
+
+  pub looks : (slots id : ℕ) (me : Sat S E F) → Allows Rule slots id me 0 (λ n. n) (Looks (step slots 0 0 0 none) me)
+  looks slots id me s k deep at fits = (
+    me.0,
+    keeps,
+    tt,
+    subst (λ (t : List ℕ × List (View E F)). Rule record { words = t.0; homes = s.homes; views = t.1 }) (λ i. (sym (set-get_or s.words 0 0) i, sym (set_again s.views id me.0 at) i)) k,
+    (refl, (k.each id me.0 at).rises),
+  )
 
   -- let go
 
@@ -145,7 +157,8 @@ module _ {S E F : Type 0} (history : S → List E) (fixed : S → F) (by : E →
               omega arith;
           shared = sum_same (λ (u : View E F). parts_at k.scale u.share) s.views id v w at refl ∙ k.shared;
         },
-        λ y same. ap (λ (z : S). (leaving by v (history z), [])) (same_hand x y same),
+        λ y same. subst (λ (z : S). (◌≡◌ {A = Sat S E F} (w, []) (leaving by v (history z), [])) × AreRising 0 (length (history z)) (leaving by v (history z)).mine) (same_hand x y same)
+            (refl, (left_each k.log k.word k.holder k.scale id v x mine holding unspent adds).rises),
       )
 
   -- split
@@ -155,7 +168,7 @@ module _ {S E F : Type 0} (history : S → List E) (fixed : S → F) (by : E →
       let mine = k.each id v at in
       let cut : List (View E F) = set s.views id (halved v) in
       let finer_each : Knows given k.log k.word k.holder (k.scale + 1) id (halved v) =
-          record { seen = mine.seen; rises = mine.rises; holds = mine.holds; spent = mine.spent; fixed = mine.fixed; scaled = omega (arith, mine.scaled) } in
+      record { seen = mine.seen; rises = mine.rises; holds = mine.holds; spent = mine.spent; fixed = mine.fixed; scaled = omega (arith, mine.scaled) } in
       record {
         log = k.log;
         word = k.word;
@@ -169,10 +182,10 @@ module _ {S E F : Type 0} (history : S → List E) (fixed : S → F) (by : E →
             (out.0, (out.1.0, at_longer cut (beside v ∷ []) k.holder out.1.0 (set_else s.views id k.holder (halved v) apart ∙ out.1.1), out.1.2));
         each = λ j u there. ⊎_elim
             (λ (old : get_elem? cut j ≡ some u). knows_set k.log k.word k.holder (k.scale + 1) s.views id (halved v)
-                (λ i y _ at_y. let kn = k.each i y at_y in record { seen = kn.seen; rises = kn.rises; holds = kn.holds; spent = kn.spent; fixed = kn.fixed; scaled = omega (arith, kn.scaled) })
-                finer_each j u old)
+            (λ i y _ at_y. let kn = k.each i y at_y in record { seen = kn.seen; rises = kn.rises; holds = kn.holds; spent = kn.spent; fixed = kn.fixed; scaled = omega (arith, kn.scaled) })
+            finer_each j u old)
             (λ (new : beside v ≡ u). subst (Knows given k.log k.word k.holder (k.scale + 1) j) new
-                record { seen = mine.seen; rises = tt; holds = λ taken. absurd (off taken); spent = λ none. (refl, refl); fixed = mine.fixed; scaled = omega (arith, mine.scaled) })
+            record { seen = mine.seen; rises = tt; holds = λ taken. absurd (off taken); spent = λ none. (refl, refl); fixed = mine.fixed; scaled = omega (arith, mine.scaled) })
             (at_snoc cut (beside v) u j there);
         counted = λ p.
             let f : View E F → ℕ = λ u. times p u.mine in
@@ -320,12 +333,23 @@ module _ {S E F : Type 0} (history : S → List E) (fixed : S → F) (by : E →
           dite (ℕ_discrete k.holder id)
           (λ e. off (sym idle ∙ ap (λ (u : View E F). u.holding) (some-injective v out.1.0 (sym at ∙ ap (get_elem? s.views) (sym e) ∙ out.1.1)) ∙ out.1.2))
           (λ apart. off (sym ((k.each k.holder out.1.0 out.1.1).spent (lone s k id v at whole k.holder out.1.0 apart out.1.1)).1 ∙ out.1.2))
+
       own : (p : ℕ) → times p v.mine ≡ sum_by (λ (u : View E F). times p u.mine) s.views
       own p =
           let f : View E F → ℕ = λ u. times p u.mine in
           let without = sum_set f s.views id v spent_view at in
           let rest : sum_by f (set s.views id spent_view) ≡ 0 = sum_none f (set s.views id spent_view) (λ j u there. ⊎_elim
-              (λ (t : (j ≡ id) × (spent_view ≡ u)). ap f (sym t.1))
-              (λ (t : (j ≢ id) × (get_elem? s.views j ≡ some u)). ap (times p) ((k.each j u t.1).spent (lone s k id v at whole j u t.0 t.1)).0)
-              (at_set s.views id j spent_view u there)) in
+          (λ (t : (j ≡ id) × (spent_view ≡ u)). ap f (sym t.1))
+          (λ (t : (j ≢ id) × (get_elem? s.views j ≡ some u)). ap (times p) ((k.each j u t.1).spent (lone s k id v at whole j u t.0 t.1)).0)
+          (at_set s.views id j spent_view u there)) in
           omega arith
+
+  -- the same of what a badge has, and of what was found in the slot
+  pub ended : (views : List (View E F)) (id : ℕ) (v : View E F) (ws : List ℕ) (xs : List (Option S)) (found : Option S) → views ≡ v ∷ []
+      → IsWhole (view_in views).share → (view_in views).holding ≡ false → 0 < (view_in views).share.parts → Final (Seen Rule id v) ws xs → get_elem? xs 0 ≡ some found
+      → (x : S) × (found ≡ Some x) × Extends (view_in views).seen (history x) × ((view_in views).fixed ≡ Some (fixed x)) × ((view_in views).mine ≡ places by (history x))
+  ended views id v ws xs found one whole idle unspent end at =
+      let same : view_in views ≡ v = ap view_in one in
+      let done = closes id v ws xs (subst (λ (u : View E F). IsWhole u.share) same whole) (ap (λ (u : View E F). u.holding) (sym same) ∙ idle) (subst (λ (u : View E F). 0 < u.share.parts) same unspent) end in
+      let x : S = done.0 in
+      (x, some-injective found (Some x) (sym at ∙ done.1), subst (λ (u : View E F). Extends u.seen (history x)) (sym same) done.2, ap (λ (u : View E F). u.fixed) same ∙ done.3, ap (λ (u : View E F). u.mine) same ∙ done.4)

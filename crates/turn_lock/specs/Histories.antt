@@ -1,6 +1,7 @@
 -- Histories: lists of entries, of which some were called, each by a caller with a number. Places in a history are counted from 1.
 use Rattle.std.specs.Prelude.{◌≡◌, ◌==◌, ◌⊎◌, ℕ, ◌+◌, ◌<◌, ◌≤◌, List, [], ◌∷◌, ◌++◌, Option, Some, None, if◌then◌else◌, length, drop, count_by, nat_lt}
 use Rattle.std.specs.List.{filter_map}
+use Rattle.std.specs.Coded.{Unit-prop, le_prop}
 
 -- the history `after` begins with `before`
 abbrev pub Extends : {E : Type 0} → List E → List E → Type 0
@@ -40,6 +41,15 @@ times place list = count_by (λ p. p == place) list
 abbrev pub AreRising : ℕ → ℕ → List ℕ → Type 0
 AreRising low high [] = Unit {0}
 AreRising low high (p ∷ ps) = (low < p) × (p ≤ high) × AreRising p high ps
+
+-- whether places rise has one proof at most
+pub AreRising-prop : (low high : ℕ) (xs : List ℕ) → IsProp (AreRising low high xs)
+AreRising-prop low high [] = Unit-prop
+AreRising-prop low high (p ∷ ps) = hlevel (le_prop, AreRising-prop p high ps)
+
+-- no place stands in both lists
+abbrev pub AreApart : List ℕ → List ℕ → Type 0
+AreApart xs ys = (place : ℕ) → (times place xs ≡ 0) ⊎ (times place ys ≡ 0)
 
 -- the place among rising ones, where it keeps them rising
 abbrev pub with_place : ℕ → List ℕ → List ℕ

@@ -10,8 +10,8 @@ use Rattle.turn_lock.specs.Views.{view_in}
 
 module _ {E F : Type 0} where
   -- the pass's caller number
-  abbrev pub caller : Pass E F → ℕ
-  caller p = p.caller
+  abbrev pub caller_number : Pass E F → ℕ
+  caller_number p = p.caller
 
   -- whether its state is in hand. Then the next four are told by what is in hand, as `known`
   abbrev pub holding : Pass E F → Bool

@@ -48,6 +48,10 @@ Grabs {S} history fixed step before found after =
     (found ≡ 0 → (x : S) × (after ≡ (entering before.0 (history x), (0, Some x) ∷ before.1)) × Extends before.0.seen (history x) × (before.0.fixed ≡ Some (fixed x)))
     × (found ≢ 0 → after ≡ before)
 
+-- nothing changed, and the places of the seat's entries rise
+abbrev pub Looks : {S E F : Type 0} → Step (Option S) → Sat S E F → ℕ → Sat S E F → Type 0
+Looks step before found after = (after ≡ before) × AreRising 0 (length before.0.seen) before.0.mine
+
 -- the state in the seat's hand is home, and the seat has seen its history
 abbrev pub LetsGo : {S E F : Type 0} → (S → List E) → (E → Option ℕ) → Step (Option S) → Sat S E F → ℕ → Sat S E F → Type 0
-LetsGo {S} history by step before found after = (x : S) → before.1 ≡ (0, Some x) ∷ [] → after ≡ (leaving by before.0 (history x), [])
+LetsGo {S} history by step before found after = (x : S) → before.1 ≡ (0, Some x) ∷ [] → (after ≡ (leaving by before.0 (history x), [])) × AreRising 0 (length (history x)) (leaving by before.0 (history x)).mine

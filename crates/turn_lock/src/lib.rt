@@ -1,6 +1,7 @@
 //! A turn: one state behind one atomic word, and passes that remember its history.
 #![tactic(auto)]
 
+mod calls;
 mod journaled;
 mod pass;
 mod rule;

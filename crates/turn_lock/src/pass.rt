@@ -1,5 +1,6 @@
 //! A pass.
 ghost use Rattle.std.specs.Prelude.{◌≡◌, ◌<◌, false, [], ◌∷◌, length};
+ghost use Rattle.turn_lock.specs.Histories.{AreRising, AreRising-prop};
 ghost use Rattle.turn_lock.specs.Views.{view_in};
 
 use crate::view::View;
@@ -15,5 +16,6 @@ pub struct Pass<E, F> {
     pub ghost one_view: { holding ≡ false → badge.views ≡ view_in badge.views ∷ [] },
     pub ghost counted: { holding ≡ false → seen_len ≡ length (view_in badge.views).seen },
     pub ghost unspent: { holding ≡ false → 0 < (view_in badge.views).share.parts },
+    pub ghost rising: { AreRising 0 (length (view_in badge.views).seen) (view_in badge.views).mine } by { AreRising-prop 0 (length (view_in badge.views).seen) (view_in badge.views).mine },
     pub ghost idle: { (view_in badge.views).holding ≡ false },
 }

@@ -28,6 +28,15 @@ impl<S: Journaled> Play<Option<S>, View<S::Entry, S::Fixed>> for Grab {
     ghost then = { Grabs S.history S.fixed };
 }
 
+// The word is read, and nothing changes.
+pub(crate) struct Look;
+
+impl<S, E, F> Play<Option<S>, View<E, F>> for Look {
+    ghost use Rattle.turn_lock.specs.Rule.{Looks};
+
+    ghost then = { Looks };
+}
+
 // The word becomes 0.
 pub(crate) struct LetGo;
 

@@ -1,10 +1,10 @@
 //! The steps of a turn, on a seat at its table.
-ghost use Rattle.std.specs.Prelude.{◌≡◌, ◌<◌, Some, None, true, false, [], ◌∷◌, IfSome, IfNone};
-ghost use Rattle.turn_lock.specs.Histories.{Extends};
+ghost use Rattle.std.specs.Prelude.{◌≡◌, ◌<◌, Some, None, true, false, [], ◌∷◌, length, IfSome, IfNone};
+ghost use Rattle.turn_lock.specs.Histories.{Extends, AreRising};
 ghost use Rattle.turn_lock.specs.Views.{entering, leaving, halved, beside, joined};
 
 use crate::journaled::Journaled;
-use crate::rule::{Grab, Halve, LetGo, Merge};
+use crate::rule::{Grab, Halve, LetGo, Look, Merge};
 use crate::turn::Turn;
 use crate::view::View;
 use atomic_table::Seat;
@@ -63,6 +63,7 @@ impl<S: Journaled> Turn<S> {
         requires extends { Extends seat.old.me.0.entered (S.history state) }
         ensures seat { (seat.new.table_id ≡ seat.old.table_id) × (seat.new.id ≡ seat.old.id) }
         ensures view { seat.new.me ≡ (leaving S.by seat.old.me.0 (S.history state), []) }
+        ensures rising { AreRising 0 (length seat.new.me.0.seen) seat.new.me.0.mine }
     {
         let shared = &self.table.shared;
         let before = shared.exchange(seat, 0, Some(state));
@@ -95,8 +96,11 @@ impl<S: Journaled> Turn<S> {
         requires empty { other.me.1 ≡ [] }
         requires idle { (seat.old.me.0.holding ≡ false) × (other.me.0.holding ≡ false) }
         requires unspent { 0 < seat.old.me.0.share.parts }
-        ensures { (seat.new.table_id ≡ seat.old.table_id) × (seat.new.me ≡ (joined seat.old.me.0 other.me.0, seat.old.me.1)) }
+        ensures seat { (seat.new.table_id ≡ seat.old.table_id) × (seat.new.me ≡ (joined seat.old.me.0 other.me.0, seat.old.me.1)) }
+        ensures rising { AreRising 0 (length seat.new.me.0.seen) seat.new.me.0.mine }
     {
-        self.table.shared.join_seat::<Merge>(seat, other);
+        let shared = &self.table.shared;
+        shared.join_seat::<Merge>(seat, other);
+        shared.load::<Look>(seat, 0);
     }
 }
