@@ -90,11 +90,13 @@ rising-merged low high (x ∷ xs) ys one other apart =
     (λ (e : (x ≢ p) × (times p (x ∷ xs) ≡ times p xs)). omega (arith, e.1, apart p))
     (times-cons p x xs)))
 
+-- lists in which each place stands once at most, all in all
+pub apart-once : (xs ys : List ℕ) → ((place : ℕ) → times place xs + times place ys ≤ 1) → AreApart xs ys
+apart-once xs ys once place = dite (ℕ_discrete (times place xs) 0) (λ here. inl here) (λ here. inr (omega (arith, here, once place)))
+
 -- lists whose places rise together have none in common
 pub apart-merged : (low high : ℕ) (xs ys : List ℕ) → AreRising low high (merged xs ys) → AreApart xs ys
-apart-merged low high xs ys rising place =
-    let once : times place xs + times place ys ≤ 1 = omega (arith, times-rising place low high (merged xs ys) rising, times-merged place xs ys) in
-    dite (ℕ_discrete (times place xs) 0) (λ none_here. inl none_here) (λ here. inr (omega (arith, here)))
+apart-merged low high xs ys rising = apart-once xs ys (λ place. omega (arith, times-rising place low high (merged xs ys) rising, times-merged place xs ys))
 
 -- rising lists with the same places are one list
 pub rising-same : (low high high' : ℕ) (xs ys : List ℕ) → AreRising low high xs → AreRising low high' ys → ((p : ℕ) → times p xs ≡ times p ys) → xs ≡ ys

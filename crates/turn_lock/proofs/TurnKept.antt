@@ -5,7 +5,7 @@ use mathlib.Core.Option as maybe
 use lib.ListN.{get_elem?}
 use Rattle.std.specs.List.{sum_by, cons_option}
 use Rattle.std.proofs.lemmas.List.Sums.{sum_by-cons, sum_by-append, sum_by_push}
-use Rattle.atomic_table.specs.Table.{State, Me, step, Act, keeps, takes, gives, Valid, stepped, Allows, Splits, Joins, Final, Seen, opening, carried_after}
+use Rattle.atomic_table.specs.Table.{State, Me, step, Act, keeps, takes, gives, Valid, stepped, Allows, Splits, Joins, Final, Seen, opening, carried_after, rest}
 use Rattle.atomic_table.proofs.Lists.{at_set, at_snoc, at_longer, set_here, set_else, set_again}
 use mathlib.Core.Logic.{dite}
 use native.Mathlib.Decide.{ℕ_discrete}
@@ -160,6 +160,14 @@ module _ {S E F : Type 0} (history : S → List E) (fixed : S → F) (by : E →
         λ y same. subst (λ (z : S). (◌≡◌ {A = Sat S E F} (w, []) (leaving by v (history z), [])) × AreRising 0 (length (history z)) (leaving by v (history z)).mine) (same_hand x y same)
             (refl, (left_each k.log k.word k.holder k.scale id v x mine holding unspent adds).rises),
       )
+
+  -- the same of a seat whose slot was just written
+  pub lets_go_written : (slots id : ℕ) (me : Sat S E F) (v : View E F) (hand : List (ℕ × Option S)) (x : S) → me ≡ (v, (0, Some x) ∷ rest hand) → hand ≡ (0, None) ∷ []
+      → slots ≡ 1 → v.holding ≡ true → 0 < v.share.parts → v.fixed ≡ Some (fixed x) → Extends v.entered (history x)
+      → Allows Rule slots id me 0 (λ _. 0) (λ _. LetsGo history by (step slots 0 0 0 none) me 0)
+  lets_go_written slots id me v hand x wrote one_slot one holding unspent same_fixed adds =
+      let now : ◌≡◌ {A = Sat S E F} me (v, (0, Some x) ∷ []) = wrote ∙ ap (λ (l : List (ℕ × Option S)). (v, (0, Some x) ∷ rest l)) one_slot in
+      subst (λ (m : Sat S E F). Allows Rule slots id m 0 (λ _. 0) (λ _. LetsGo history by (step slots 0 0 0 none) m 0)) (sym now) (lets_go slots id v x one holding unspent same_fixed adds)
 
   -- split
 

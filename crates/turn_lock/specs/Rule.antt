@@ -5,7 +5,7 @@ use mathlib.Core.Option as maybe
 use lib.ListN.{get_elem?}
 use Rattle.atomic_table.specs.Table.{State, Me, Step}
 use Rattle.turn_lock.specs.declared.view.View.{View}
-use Rattle.turn_lock.specs.Histories.{Extends, places, times, AreRising}
+use Rattle.turn_lock.specs.Histories.{Extends, places, times, AreRising, AreApart}
 use Rattle.turn_lock.specs.Views.{parts_at, entering, leaving}
 
 -- what one view may say, where `log` is the history last let go, and `holder` is the seat that holds the state where the word is 1
@@ -24,6 +24,10 @@ IsHome {S} history fixed given log homes = (x : S) × (get_elem? homes 0 ≡ som
 -- a seat holds the state
 abbrev pub IsHolding : {E F : Type 0} → List (View E F) → ℕ → Type 0
 IsHolding {E} {F} views seat = (v : View E F) × (get_elem? views seat ≡ some v) × (v.holding ≡ true)
+
+-- of two seats' views no place stands in both
+abbrev pub AreAllApart : {E F : Type 0} → List (View E F) → Type 0
+AreAllApart {E} {F} views = (one other : ℕ) (v w : View E F) → get_elem? views one ≡ some v → get_elem? views other ≡ some w → other ≢ one → AreApart v.mine w.mine
 
 -- The word is 1 exactly where one view is holding, and else 0, with the state home. Each called place of the history last let go stands in one view's `mine`, and the shares add up to the whole
 pub record Kept {S E F : Type 0} (history : S → List E) (fixed : S → F) (by : E → Option ℕ) (given : F) (s : State (Option S) (View E F)) : Type 0 where

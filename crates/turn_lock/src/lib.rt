@@ -11,4 +11,8 @@ mod view;
 
 pub use journaled::Journaled;
 pub use pass::Pass;
+pub use rule::places_are_apart;
 pub use turn::{Held, Turn};
+
+#[cfg(test)]
+mod tests;

@@ -1,4 +1,9 @@
 //! The rule of the turn's table, and its steps.
+ghost use Rattle.std.specs.Prelude.{Option};
+ghost use Rattle.atomic_table.specs.Table.{State};
+ghost use Rattle.turn_lock.specs.declared.view.View.{View};
+ghost use Rattle.turn_lock.specs.Rule.{Kept, AreAllApart};
+
 use crate::journaled::Journaled;
 use crate::view::View;
 use atomic_table::{Join, Play, Split, TableRule};
@@ -65,3 +70,9 @@ impl<E, F> Join<View<E, F>> for Merge {
 
     ghost spent = { spent_view };
 }
+
+/// No entry is two passes': wherever the rule of a turn holds, the places that two passes have in
+/// the history are apart.
+pub fn places_are_apart<S: Journaled>()
+    ensures { (given : S.Fixed) (s : State (Option S) (View S.Entry S.Fixed)) → Kept S.history S.fixed S.by given s → AreAllApart s.views }
+{}

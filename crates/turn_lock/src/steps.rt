@@ -23,7 +23,8 @@ impl<S: Journaled> Turn<S> {
         ensures none { IfNone result (seat.new.me ≡ seat.old.me) }
     {
         let shared = &self.table.shared;
-        if shared.compare_exchange::<Grab>(seat, 0, 0, 1) == 0 {
+        let free = shared.compare_exchange::<Grab>(seat, 0, 0, 1) == 0;
+        if free {
             Some(shared.exchange(seat, 0, None).unwrap())
         } else {
             None
