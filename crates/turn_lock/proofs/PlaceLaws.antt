@@ -1,11 +1,13 @@
 -- Laws of places: how often one stands in a list, lists that rise, and the called places of a history.
-use Rattle.std.proofs.Common.{◌≡◌, ◌≢◌, ◌==◌, ◌⊎◌, ℕ, suc, ◌+◌, ◌<◌, ◌≤◌, List, [], ◌∷◌, ◌++◌, Option, Some, None, Bool, true, false, length, drop, cond, nat_lt, refl, sym, ap, ◌∙◌, subst, inl, inr, arith, eqb, eq-eqb, ne_eqb, append_assoc, append-nil, length-append, ⊎_elim}
+use Rattle.std.proofs.Common.{◌≡◌, ◌≢◌, ◌==◌, ◌⊎◌, ℕ, suc, ◌+◌, ◌<◌, ◌≤◌, List, [], ◌∷◌, ◌++◌, Option, Some, None, Bool, true, false, length, cond, nat_lt, refl, sym, ap, ◌∙◌, subst, inl, inr, arith, eq-eqb, ne_eqb, append_assoc, append-nil, length-append, ⊎_elim}
 use mathlib.Core.Logic.{dite}
-use native.Mathlib.Decide.{ℕ_discrete, dec_lt}
+use native.Mathlib.Decide.{ℕ_discrete}
 use Rattle.std.proofs.lemmas.Bool.Decides.{nat_tests}
 use Rattle.std.proofs.lemmas.List.Sums.{sum_by-cons, sum_by-append}
 use Rattle.std.proofs.Math.Seq.{drop-append_seam}
-use Rattle.turn_lock.specs.Histories.{Extends, added, place_if, places_from, places, new_places, times, AreRising, AreApart, with_place, merged, longer}
+use Rattle.std.specs.List.{cons_option}
+use Rattle.std.proofs.lemmas.List.Elements.{filter_map-append}
+use Rattle.turn_lock.specs.Histories.{Extends, place_if, places_from, places, new_places, times, AreRising, AreApart, with_place, merged, longer, callers, AddsOneCall}
 
 pub times-same : (p : ℕ) (xs : List ℕ) → times p (p ∷ xs) ≡ 1 + times p xs
 times-same p xs = sum_by-cons (λ q. cond (q == p) 1 0) p xs ∙ ap (λ b. cond b 1 0 + times p xs) (eq-eqb p p refl)
@@ -149,6 +151,40 @@ module _ {E : Type 0} (by : E → Option ℕ) where
   rising-new_places before after (gained, e) = subst (λ h. AreRising (length before) (length h) (new_places by before h)) (sym e)
       (subst (λ l. AreRising (length before) (length (before ++ gained)) (places_from by (length before + 1) l)) (sym (drop-append_seam before gained))
       (subst (λ n. AreRising (length before) n (places_from by (length before + 1) gained)) (sym (length-append before gained)) (rising-places_from (length before) gained)))
+
+  -- entries that no one called have no places
+  pub places_from-notes : (first : ℕ) (es : List E) → callers by es ≡ [] → places_from by first es ≡ []
+  places_from-notes first [] empty = refl
+  places_from-notes first (e ∷ es) empty = by_caller (by e) empty (places_from-notes (first + 1) es)
+    where
+      by_caller : (c : Option ℕ) → cons_option c (callers by es) ≡ [] → (callers by es ≡ [] → places_from by (first + 1) es ≡ []) → place_if c first (places_from by (first + 1) es) ≡ []
+      by_caller (Some caller) empty rest = absurd (cc)
+      by_caller None empty rest = rest empty
+
+  -- notes alone were added
+  pub new_places-notes : (before notes : List E) → callers by notes ≡ [] → new_places by before (before ++ notes) ≡ []
+  new_places-notes before notes empty = ap (places_from by (length before + 1)) (drop-append_seam before notes) ∙ places_from-notes (length before + 1) notes empty
+
+  -- between notes, one called entry was added
+  pub new_places-call : (before early late : List E) (e : E) (caller : ℕ) → by e ≡ Some caller → callers by early ≡ [] → callers by late ≡ []
+      → new_places by before (before ++ (early ++ e ∷ late)) ≡ (length before + 1 + length early) ∷ []
+  new_places-call before early late e caller called none_early none_late =
+      ap (places_from by (length before + 1)) (drop-append_seam before (early ++ e ∷ late)) ∙ places_from-append (length before + 1) early (e ∷ late)
+      ∙ ap (λ l. l ++ places_from by (length before + 1 + length early) (e ∷ late)) (places_from-notes (length before + 1) early none_early)
+      ∙ ap (λ c. place_if c (length before + 1 + length early) (places_from by (length before + 1 + length early + 1) late)) called
+      ∙ ap (λ l. (length before + 1 + length early) ∷ l) (places_from-notes (length before + 1 + length early + 1) late none_late)
+
+  pub adds-notes : (caller : ℕ) (before notes : List E) → callers by notes ≡ [] → AddsOneCall by caller before (before ++ notes)
+  adds-notes caller before notes empty = ((notes, refl), inl (ap (callers by) (drop-append_seam before notes) ∙ empty))
+
+  pub adds-call : (before early late : List E) (e : E) (caller : ℕ) → by e ≡ Some caller → callers by early ≡ [] → callers by late ≡ []
+      → AddsOneCall by caller before (before ++ (early ++ e ∷ late))
+  adds-call before early late e caller called none_early none_late = (
+    (early ++ e ∷ late, refl),
+    inr (
+        ap (callers by) (drop-append_seam before (early ++ e ∷ late)) ∙ filter_map-append by early (e ∷ late)
+        ∙ ap (λ l. l ++ callers by (e ∷ late)) none_early ∙ ap (λ c. cons_option c (callers by late)) called ∙ ap (λ l. caller ∷ l) none_late),
+  )
 
 module _ {E : Type 0} where
   pub extends-same : (xs : List E) → Extends xs xs

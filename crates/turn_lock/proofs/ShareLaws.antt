@@ -3,7 +3,7 @@ use Rattle.std.proofs.Common.{◌≡◌, ℕ, zero, suc, ◌+◌, ◌-◌, ◌*�
 use Rattle.std.proofs.lemmas.Nat.{pow-add, pow_pos}
 use Rattle.std.proofs.Math.Nat.{pow-succ'}
 use Rattle.turn_lock.specs.declared.view.Share.{Share}
-use Rattle.turn_lock.specs.Views.{share_of, half, parts_at, both_shares, IsWhole}
+use Rattle.turn_lock.specs.Views.{half, parts_at, both_shares, IsWhole}
 
 -- the parts at one scale, made finer to another
 rescaled : (parts low mid high : ℕ) → low ≤ mid → mid ≤ high → parts * 2 ^ (mid - low) * 2 ^ (high - mid) ≡ parts * 2 ^ (high - low)

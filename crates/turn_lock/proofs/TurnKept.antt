@@ -1,25 +1,24 @@
 -- Each step on the turn's table keeps its rule.
-use Rattle.std.proofs.Common.{◌≡◌, ◌≢◌, ◌⊎◌, ℕ, zero, suc, ◌+◌, ◌*◌, ◌^◌, ◌<◌, ◌≤◌, List, [], ◌∷◌, ◌++◌, Option, Some, None, true, false, true≢false, max, length, set, get_or, eqb, ne_eqb, refl, sym, ap, ◌∙◌, subst, inl, inr, ⊎_elim, arith, length-append}
+use Rattle.std.proofs.Common.{◌≡◌, ◌≢◌, ℕ, zero, suc, ◌+◌, ◌*◌, ◌^◌, ◌<◌, ◌≤◌, List, [], ◌∷◌, Option, Some, None, true, false, true≢false, max, length, set, get_or, eqb, ne_eqb, refl, sym, ap, ◌∙◌, subst, ⊎_elim, arith}
 use mathlib.Core.Option.{some, none, some-injective, some-ne-none}
 use mathlib.Core.Option as maybe
 use lib.ListN.{get_elem?}
-use Rattle.std.specs.List.{sum_by, cons_option}
-use Rattle.std.proofs.lemmas.List.Sums.{sum_by-cons, sum_by-append, sum_by_push}
-use Rattle.atomic_table.specs.Table.{State, Me, step, Act, keeps, takes, gives, Valid, stepped, Allows, Splits, Joins, Final, Seen, opening, carried_after, rest}
+use Rattle.std.specs.List.{sum_by}
+use Rattle.std.proofs.lemmas.List.Sums.{sum_by_push}
+use Rattle.atomic_table.specs.Table.{State, step, Act, keeps, takes, gives, Valid, stepped, Allows, Splits, Joins, Final, Seen, opening, carried_after, rest}
 use Rattle.atomic_table.proofs.Lists.{at_set, at_snoc, at_longer, set_here, set_else, set_again}
 use mathlib.Core.Logic.{dite}
 use native.Mathlib.Decide.{ℕ_discrete}
 use prog.Atomic.{either}
 use Rattle.std.proofs.Math.Nat.{pow-succ'}
-use Rattle.turn_lock.specs.declared.view.Share.{Share}
 use Rattle.turn_lock.specs.declared.view.View.{View}
-use Rattle.turn_lock.specs.Histories.{Extends, places, new_places, times, AreRising, merged, longer, callers, place_if, places_from}
-use Rattle.turn_lock.specs.Views.{parts_at, half, both_shares, IsWhole, first_view, spent_view, view_in, entering, leaving, halved, beside, joined}
+use Rattle.turn_lock.specs.Histories.{Extends, places, new_places, times, AreRising, longer, callers}
+use Rattle.turn_lock.specs.Views.{parts_at, IsWhole, first_view, spent_view, view_in, entering, leaving, halved, beside, joined}
 use Rattle.std.proofs.lemmas.List.{set-get_or}
-use Rattle.turn_lock.specs.Rule.{Knows, IsHome, IsHolding, Kept, Sat, Grabs, Looks, LetsGo}
+use Rattle.turn_lock.specs.Rule.{Knows, Kept, Sat, Grabs, Looks, LetsGo}
 use Rattle.turn_lock.proofs.SumLaws.{sum_set, sum_same, sum_at, sum_none, sum_double, at_length}
 use Rattle.turn_lock.proofs.ShareLaws.{finer, parts_at-half, parts_at-both, parts_at-whole, parts_at-none}
-use Rattle.turn_lock.proofs.PlaceLaws.{times-append, times-merged, times-rising, rising-wider, rising-append, rising-merged, rising-same, rising-places, places-extended, rising-new_places, extends-same, extends-later, extends-length, longer-extends, length-longer}
+use Rattle.turn_lock.proofs.PlaceLaws.{times-append, times-merged, times-rising, rising-wider, rising-append, rising-merged, rising-same, rising-places, places-extended, rising-new_places, places_from-notes, extends-same, extends-later, extends-length, longer-extends, length-longer}
 
 off : false ≡ true → ⊥
 off e = true≢false (sym e)
@@ -284,14 +283,6 @@ module _ {S E F : Type 0} (history : S → List E) (fixed : S → F) (by : E →
 
   -- the table at the start
 
-  uncalled : (first : ℕ) (es : List E) → callers by es ≡ [] → places_from by first es ≡ []
-  uncalled first [] empty = refl
-  uncalled first (e ∷ es) empty = by_caller (by e) empty (uncalled (first + 1) es)
-    where
-      by_caller : (c : Option ℕ) → cons_option c (callers by es) ≡ [] → (callers by es ≡ [] → places_from by (first + 1) es ≡ []) → place_if c first (places_from by (first + 1) es) ≡ []
-      by_caller (Some caller) empty rest = absurd (cc)
-      by_caller None empty rest = rest empty
-
   pub starts : (x : S) → fixed x ≡ given → callers by (history x) ≡ [] → Rule (opening (0 ∷ []) (Some x ∷ []) (first_view given))
   starts x same empty = record {
     log = history x;
@@ -302,7 +293,7 @@ module _ {S E F : Type 0} (history : S → List E) (fixed : S → F) (by : E →
     home = λ _. (x, refl, refl, same);
     away = λ taken. absurd (taken refl);
     each = first_knows;
-    counted = λ p. ap (times p) (sym (uncalled 1 (history x) empty));
+    counted = λ p. ap (times p) (sym (places_from-notes by 1 (history x) empty));
     shared = refl;
   }
     where

@@ -14,8 +14,8 @@ use std::snapshot::Snapshot;
 use std::sync::Wait;
 
 impl<E, F> Pass<E, F> {
-    /// The length of the history as far as the pass has seen it. The places of the pass's own
-    /// entries rise within it.
+    /// The length of the history as far as the pass has seen it, in entries. The places of the
+    /// pass's own entries rise within it, from 1 on.
     pub fn seen_len(&self) -> u64
         requires { holding self.now ≡ false }
         ensures length { result ≡ length (seen self.now) }
@@ -34,11 +34,12 @@ impl<E, F> Pass<E, F> {
 
 impl<S: Journaled> Turn<S> {
     /// A turn with this state, and its first pass: of caller 0, with the whole turn for its share,
-    /// which has seen nothing and made no call.
+    /// which has seen nothing and made no call. No entry of the state's history may have a caller
+    /// yet.
     ///
     /// # Errors
     ///
-    /// Where memory is short, the state comes back.
+    /// Where memory is short, the state comes back unchanged.
     pub fn new(
         alloc: Global,
         state: S,
@@ -75,10 +76,13 @@ impl<S: Journaled> Turn<S> {
         }
     }
 
-    /// Waits until no one has the state in hand, and takes it, as it was last left.
+    /// Waits until no one has the state in hand, and takes it as it was last left. Its history
+    /// begins with all that the pass has seen.
     ///
-    /// While it waits it sleeps: a thread that finds the turn taken parks on its word, and
-    /// [`Turn::leave`] wakes one thread that parks there. Who comes first may overtake who waits.
+    /// While it waits it sleeps, and costs no processor time: a thread that finds the turn taken
+    /// parks on its word, and [`Turn::leave`] wakes one that parks there. A thread that comes just
+    /// then may overtake the one that wakes, which parks again. The state may be in hand for long,
+    /// so a spinning wait would not do.
     pub fn enter<R: Wait>(&self, rt: &R, pass: &mut Pass<S::Entry, S::Fixed>) -> Held<S>
         requires pass { IsPassOf self.now pass.old }
         requires idle { holding pass.old ≡ false }
@@ -99,7 +103,11 @@ impl<S: Journaled> Turn<S> {
         Held { state, seat, stub }
     }
 
-    /// Leaves the state for the next, which may be waiting.
+    /// Leaves the state for the next, and wakes one that waits for it.
+    ///
+    /// The history begins with the one that [`Turn::enter`] gave, and at most one entry more has a
+    /// caller, which is the pass's. Afterwards the pass has seen this history, and that entry's
+    /// place is the last of its own.
     pub fn leave(&self, pass: &mut Pass<S::Entry, S::Fixed>, held: Held<S>)
         requires held { IsHeldOf self.now pass.old held }
         requires fixed { (known held).fixed ≡ Some (S.fixed held.state) }
@@ -122,8 +130,8 @@ impl<S: Journaled> Turn<S> {
         pass.holding = false;
     }
 
-    /// Another pass, with this caller number, which has seen as much and made no call. It has half
-    /// of the share.
+    /// Another pass, with this caller number, which has seen as much and made no call. It has one
+    /// half of the share, and the pass keeps the other.
     pub fn split(
         &self,
         pass: &mut Pass<S::Entry, S::Fixed>,
@@ -149,7 +157,8 @@ impl<S: Journaled> Turn<S> {
         }
     }
 
-    /// Takes in another pass of this turn: its share, its calls and what it has seen.
+    /// Takes in another pass of this turn: its share and its places, and what it has seen where
+    /// that is more. The two have no place in common.
     pub fn join(&self, pass: &mut Pass<S::Entry, S::Fixed>, other: Pass<S::Entry, S::Fixed>)
         requires pass { IsPassOf self.now pass.old × IsPassOf self.now other }
         requires idle { (holding pass.old ≡ false) × (holding other ≡ false) }
@@ -168,7 +177,8 @@ impl<S: Journaled> Turn<S> {
         pass.badge = seat.into_badge();
     }
 
-    /// The state, as it was last left, from the pass that has the whole turn for its share.
+    /// The state as it was last left, for the pass that has the whole turn for its share. Each
+    /// called entry of its history was made with this pass, or with one that it took in.
     pub fn close(self, pass: Pass<S::Entry, S::Fixed>) -> S
         requires pass { IsPassOf self pass }
         requires idle { holding pass ≡ false }

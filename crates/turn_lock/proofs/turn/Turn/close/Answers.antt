@@ -1,4 +1,4 @@
-use Rattle.std.proofs.Common.{◌≡◌, ℕ, List, ◌∷◌, Option, Some, refl, sym, ap, ◌∙◌, subst}
+use Rattle.std.proofs.Common.{◌≡◌, Some, refl, sym, ◌∙◌, subst}
 use Rattle.std.specs.Prelude.{IsSome}
 use Rattle.turn_lock.specs.Histories.{Extends, places}
 use Rattle.turn_lock.specs.Passes.{seen, mine, fixed}
