@@ -1,8 +1,8 @@
 -- What a seat at the turn's table knows.
-use Rattle.std.specs.Prelude.{◌≡◌, ℕ, ◌+◌, ◌-◌, ◌*◌, ◌^◌, List, [], ◌∷◌, ◌++◌, Option, Some, None, true, false, max}
+use Rattle.std.specs.Prelude.{length, ◌≡◌, ℕ, ◌+◌, ◌-◌, ◌*◌, ◌^◌, List, [], ◌∷◌, ◌++◌, Option, Some, None, true, false, max}
 use Rattle.turn_lock.specs.declared.view.Share.{Share}
 use Rattle.turn_lock.specs.declared.view.View.{View}
-use Rattle.turn_lock.specs.Histories.{new_places, merged, longer}
+use Rattle.turn_lock.specs.Histories.{AreRising, AreRising-prop, new_places, merged, longer}
 
 abbrev pub share_of : ℕ → ℕ → Share
 share_of parts halvings = record { parts = parts; halvings = halvings }
@@ -40,6 +40,13 @@ module _ {E F : Type 0} where
   abbrev pub view_in : List (View E F) → View E F
   view_in [] = spent_view
   view_in (v ∷ vs) = v
+
+  -- its places rise within what it has seen
+  abbrev pub PlacesRise : View E F → Type 0
+  PlacesRise v = AreRising 0 (length v.seen) v.mine
+
+  pub PlacesRise-prop : (v : View E F) → IsProp (PlacesRise v)
+  PlacesRise-prop v = AreRising-prop 0 (length v.seen) v.mine
 
   -- it holds the state, whose history is `history`
   abbrev pub entering : View E F → List E → View E F

@@ -111,11 +111,13 @@ impl<S: Journaled> Turn<S> {
     pub fn leave(&self, pass: &mut Pass<S::Entry, S::Fixed>, held: Held<S>)
         requires held { IsHeldOf self.now pass.old held }
         requires fixed { (known held).fixed ≡ Some (S.fixed held.state) }
-        requires history { AddsOneCall S.by (caller_number pass.old) (entered held) (S.history held.state) }
+        requires history { AddsOneCall S.by (caller_number pass.old) (entered held)
+            (S.history held.state) }
         ensures pass { IsPassOf self.now pass.new × (holding pass.new ≡ false) }
         ensures caller { caller_number pass.new ≡ caller_number pass.old }
         ensures seen { seen pass.new ≡ S.history held.state }
-        ensures mine { mine pass.new ≡ (known held).mine ++ new_places S.by (entered held) (S.history held.state) }
+        ensures mine { mine pass.new
+            ≡ (known held).mine ++ new_places S.by (entered held) (S.history held.state) }
         ensures share { share pass.new ≡ (known held).share }
         ensures fixed { fixed pass.new ≡ (known held).fixed }
     {
@@ -140,11 +142,17 @@ impl<S: Journaled> Turn<S> {
         requires pass { IsPassOf self.now pass.old }
         requires idle { holding pass.old ≡ false }
         ensures pass { IsPassOf self.now pass.new × (holding pass.new ≡ false) }
-        ensures same { (caller_number pass.new ≡ caller_number pass.old) × (seen pass.new ≡ seen pass.old) × (mine pass.new ≡ mine pass.old) × (fixed pass.new ≡ fixed pass.old) }
-        ensures share { (share pass.new ≡ half (share pass.old)) × (share result ≡ half (share pass.old)) }
+        ensures same_caller { caller_number pass.new ≡ caller_number pass.old }
+        ensures same_seen { seen pass.new ≡ seen pass.old }
+        ensures same_mine { mine pass.new ≡ mine pass.old }
+        ensures same_fixed { fixed pass.new ≡ fixed pass.old }
+        ensures halved { share pass.new ≡ half (share pass.old) }
         ensures other { IsPassOf self.now result × (holding result ≡ false) }
         ensures caller { caller_number result ≡ caller }
-        ensures seen { (seen result ≡ seen pass.old) × (mine result ≡ []) × (fixed result ≡ fixed pass.old) }
+        ensures seen { seen result ≡ seen pass.old }
+        ensures mine { mine result ≡ [] }
+        ensures fixed { fixed result ≡ fixed pass.old }
+        ensures share { share result ≡ half (share pass.old) }
     {
         let mut seat = mem::replace(&mut pass.badge, Badge::blank()).into_seat();
         let other = self.halve(&mut seat);

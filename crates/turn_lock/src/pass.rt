@@ -1,7 +1,6 @@
 //! A pass, as it lies between two calls of its turn.
 ghost use Rattle.std.specs.Prelude.{◌≡◌, ◌<◌, false, [], ◌∷◌, length};
-ghost use Rattle.turn_lock.specs.Histories.{AreRising, AreRising-prop};
-ghost use Rattle.turn_lock.specs.Views.{view_in};
+ghost use Rattle.turn_lock.specs.Views.{PlacesRise, PlacesRise-prop, view_in};
 
 use crate::view::View;
 use atomic_table::Badge;
@@ -27,6 +26,6 @@ pub struct Pass<E, F> {
     pub ghost one_view: { holding ≡ false → badge.views ≡ view_in badge.views ∷ [] },
     pub ghost counted: { holding ≡ false → seen_len ≡ length (view_in badge.views).seen },
     pub ghost unspent: { holding ≡ false → 0 < (view_in badge.views).share.parts },
-    pub ghost rising: { AreRising 0 (length (view_in badge.views).seen) (view_in badge.views).mine } by { AreRising-prop 0 (length (view_in badge.views).seen) (view_in badge.views).mine },
+    pub ghost rising: { PlacesRise (view_in badge.views) } by { PlacesRise-prop (view_in badge.views) },
     pub ghost idle: { (view_in badge.views).holding ≡ false },
 }

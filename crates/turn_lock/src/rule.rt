@@ -74,5 +74,6 @@ impl<E, F> Join<View<E, F>> for Merge {
 /// No entry is two passes': wherever the rule of a turn holds, the places that two passes have in
 /// the history are apart.
 pub fn places_are_apart<S: Journaled>()
-    ensures { (given : S.Fixed) (s : State (Option S) (View S.Entry S.Fixed)) → Kept S.history S.fixed S.by given s → AreAllApart s.views }
+    ensures { (given : S.Fixed) (s : State (Option S) (View S.Entry S.Fixed))
+        → Kept S.history S.fixed S.by given s → AreAllApart s.views }
 {}

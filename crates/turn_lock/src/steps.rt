@@ -1,7 +1,7 @@
 //! The steps of a turn, on a seat at its table.
-ghost use Rattle.std.specs.Prelude.{◌≡◌, ◌<◌, Some, None, true, false, [], ◌∷◌, length, IfSome, IfNone};
-ghost use Rattle.turn_lock.specs.Histories.{Extends, AreRising};
-ghost use Rattle.turn_lock.specs.Views.{entering, leaving, halved, beside, joined};
+ghost use Rattle.std.specs.Prelude.{◌≡◌, ◌<◌, Some, None, true, false, [], ◌∷◌, IfSome, IfNone};
+ghost use Rattle.turn_lock.specs.Histories.{Extends};
+ghost use Rattle.turn_lock.specs.Views.{PlacesRise, entering, leaving, halved, beside, joined};
 
 use crate::journaled::Journaled;
 use crate::rule::{Grab, Halve, LetGo, Look, Merge};
@@ -17,7 +17,8 @@ impl<S: Journaled> Turn<S> {
         requires empty { seat.old.me.1 ≡ [] }
         requires unspent { 0 < seat.old.me.0.share.parts }
         ensures seat { (seat.new.table_id ≡ seat.old.table_id) × (seat.new.id ≡ seat.old.id) }
-        ensures some { IfSome result (λ x. seat.new.me ≡ (entering seat.old.me.0 (S.history x), (0, None) ∷ [])) }
+        ensures some { IfSome result (λ x. seat.new.me
+            ≡ (entering seat.old.me.0 (S.history x), (0, None) ∷ [])) }
         ensures begins { IfSome result (λ x. Extends seat.old.me.0.seen (S.history x)) }
         ensures fixed { IfSome result (λ x. seat.old.me.0.fixed ≡ Some (S.fixed x)) }
         ensures none { IfNone result (seat.new.me ≡ seat.old.me) }
@@ -64,7 +65,7 @@ impl<S: Journaled> Turn<S> {
         requires extends { Extends seat.old.me.0.entered (S.history state) }
         ensures seat { (seat.new.table_id ≡ seat.old.table_id) × (seat.new.id ≡ seat.old.id) }
         ensures view { seat.new.me ≡ (leaving S.by seat.old.me.0 (S.history state), []) }
-        ensures rising { AreRising 0 (length seat.new.me.0.seen) seat.new.me.0.mine }
+        ensures rising { PlacesRise seat.new.me.0 }
     {
         let shared = &self.table.shared;
         let before = shared.exchange(seat, 0, Some(state));
@@ -81,7 +82,8 @@ impl<S: Journaled> Turn<S> {
         requires table { seat.old.table_id ≡ self.now.table.shared.table_id }
         requires idle { seat.old.me.0.holding ≡ false }
         requires unspent { 0 < seat.old.me.0.share.parts }
-        ensures seat { (seat.new.table_id ≡ seat.old.table_id) × (seat.new.me ≡ (halved seat.old.me.0, seat.old.me.1)) }
+        ensures table { seat.new.table_id ≡ seat.old.table_id }
+        ensures view { seat.new.me ≡ (halved seat.old.me.0, seat.old.me.1) }
         ensures other { (result.table_id ≡ seat.old.table_id) × (result.me ≡ (beside seat.old.me.0, [])) }
     {
         self.table.shared.split_seat::<Halve>(seat)
@@ -93,12 +95,14 @@ impl<S: Journaled> Turn<S> {
         seat: &mut Seat<Option<S>, View<S::Entry, S::Fixed>>,
         other: Seat<Option<S>, View<S::Entry, S::Fixed>>,
     )
-        requires table { (seat.old.table_id ≡ self.now.table.shared.table_id) × (other.table_id ≡ seat.old.table_id) }
+        requires table { seat.old.table_id ≡ self.now.table.shared.table_id }
+        requires same_table { other.table_id ≡ seat.old.table_id }
         requires empty { other.me.1 ≡ [] }
         requires idle { (seat.old.me.0.holding ≡ false) × (other.me.0.holding ≡ false) }
         requires unspent { 0 < seat.old.me.0.share.parts }
-        ensures seat { (seat.new.table_id ≡ seat.old.table_id) × (seat.new.me ≡ (joined seat.old.me.0 other.me.0, seat.old.me.1)) }
-        ensures rising { AreRising 0 (length seat.new.me.0.seen) seat.new.me.0.mine }
+        ensures table { seat.new.table_id ≡ seat.old.table_id }
+        ensures view { seat.new.me ≡ (joined seat.old.me.0 other.me.0, seat.old.me.1) }
+        ensures rising { PlacesRise seat.new.me.0 }
     {
         let shared = &self.table.shared;
         shared.join_seat::<Merge>(seat, other);
