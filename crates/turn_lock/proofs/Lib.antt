@@ -1,0 +1,4 @@
+pub mod PlaceLaws
+pub mod SumLaws
+pub mod ShareLaws
+pub mod TurnKept
