@@ -281,6 +281,51 @@ fn a_sphere_between_two_points_of_the_ray_is_missed(rt: HostRuntime) -> Result<(
 }
 
 #[test]
+fn all_hits_come_from_front_to_back(rt: HostRuntime) -> Result<(), AllocError> {
+    let alloc = rt.alloc();
+    let behind = Shape::Triangle(
+        point(-131072, -131072, -65536),
+        point(131072, -131072, -65536),
+        point(-131072, 131072, -65536),
+    );
+    let listed = PrimitiveList::new(Vec::from_slice(
+        alloc,
+        &[
+            primitive(0, behind, GREEN, OPAQUE, NO_ID),
+            primitive(2, corner_triangle(), RED, OPAQUE, NO_ID),
+            primitive(1, corner_triangle(), RED, OPAQUE, NO_ID),
+        ],
+    )?);
+    let made = Scene {
+        primitives: listed,
+        camera: parallel(),
+        lighting: Lighting {
+            lights: LightList::new(Vec::new(alloc)),
+            background: [0; 3],
+            ambient_color: WHITE,
+            ambient_radiance: 65536,
+        },
+        width: 1,
+        height: 1,
+    };
+    assert!(rt; is_scene_within(&made));
+    assert_eq!(rt; made.primitives.len(), 3);
+    assert_eq!(rt; made.primitives.place(1).surf, 2);
+    assert!(rt; made.primitives.shape(0) == behind);
+    let ray = camera_ray(&made.camera, 1, 1, 0, 0);
+    let found = hits(alloc, &ray, made.primitives.as_slice())?;
+    let order = [(65536, 1), (65536, 2), (131072, 0)];
+    assert_eq!(rt; found.len(), 3);
+    for (hit, (depth, surf)) in found.iter().zip(order) {
+        assert!(rt; hit.depth == depth && hit.place.surf == surf);
+    }
+    let shown = picture(alloc, &made, Plane::Color)?;
+    let tile = tile_of(1, 1, 0, 0);
+    assert!(rt; part(alloc, &made, Plane::Color, tile)?.as_slice() == shown.as_slice());
+    Ok(())
+}
+
+#[test]
 fn tiles_are_cut_at_the_border(rt: HostRuntime) {
     for (w, h, tile, want) in [(17, 1, 1, [16, 0, 1, 1]), (320, 240, 20, [0, 16, 16, 16])] {
         let rect = tile_rect(w, h, tile);
