@@ -4,6 +4,7 @@ use Rattle.turn_lock.specs.declared.view.Share.{Share}
 use Rattle.turn_lock.specs.declared.view.View.{View}
 use Rattle.turn_lock.specs.Histories.{AreRising, AreRising-prop, new_places, merged, longer}
 
+-- the fraction parts / 2 ^ halvings
 abbrev pub share_of : ℕ → ℕ → Share
 share_of parts halvings = record { parts = parts; halvings = halvings }
 
@@ -45,6 +46,7 @@ module _ {E F : Type 0} where
   abbrev pub PlacesRise : View E F → Type 0
   PlacesRise v = AreRising 0 (length v.seen) v.mine
 
+  -- that has one proof at most
   pub PlacesRise-prop : (v : View E F) → IsProp (PlacesRise v)
   PlacesRise-prop v = AreRising-prop 0 (length v.seen) v.mine
 
@@ -56,6 +58,7 @@ module _ {E F : Type 0} where
   abbrev pub leaving : (E → Option ℕ) → View E F → List E → View E F
   leaving by v history = record { seen = history; mine = v.mine ++ new_places by v.entered history; share = v.share; fixed = v.fixed; holding = false; entered = [] }
 
+  -- it has given half of its share away
   abbrev pub halved : View E F → View E F
   halved v = record { seen = v.seen; mine = v.mine; share = half v.share; fixed = v.fixed; holding = v.holding; entered = v.entered }
 
@@ -63,5 +66,6 @@ module _ {E F : Type 0} where
   abbrev pub beside : View E F → View E F
   beside v = record { seen = v.seen; mine = []; share = half v.share; fixed = v.fixed; holding = false; entered = [] }
 
+  -- it has taken in what the other knew
   abbrev pub joined : View E F → View E F → View E F
   joined v w = record { seen = longer v.seen w.seen; mine = merged v.mine w.mine; share = both_shares v.share w.share; fixed = v.fixed; holding = v.holding; entered = v.entered }

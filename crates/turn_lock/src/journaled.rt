@@ -15,6 +15,7 @@ pub trait Journaled {
     // The entries, from the first on.
     ghost history: { Self → List Self.Entry };
 
+    // What no call changes, as contracts see it.
     ghost fixed: { Self → Self.Fixed };
 
     // The number of the caller that made the entry, or none.

@@ -20,6 +20,7 @@ pub struct Pass<E, F> {
     // Its seat at the table; while its state is in hand, a blank.
     pub(crate) badge: Badge<View<E, F>>,
     pub(crate) caller: u32,
+
     // The length of what it has seen.
     pub(crate) seen_len: u64,
     pub(crate) holding: bool,
