@@ -8,18 +8,19 @@ use crate::journaled::Journaled;
 use crate::pass::Pass;
 use crate::turn::{Held, Turn};
 use atomic_table::{Badge, Table};
-use std::alloc::{AllocError, AllocFailed, Global};
+use dev_types::NoMemory;
+use std::alloc::{AllocFailed, Global};
 use std::mem;
 use std::snapshot::Snapshot;
 use std::sync::Wait;
 
 impl<E, F> Pass<E, F> {
     /// The length of the history as far as the pass has seen it, in entries. The places of the
-    /// pass's own entries rise within it, from 1 on.
+    /// pass's own entries rise within it, from 1 on. While its state is in hand, what a pass has
+    /// seen is told by the [`Held`].
     pub fn seen_len(&self) -> u64
-        requires { holding self.now ≡ false }
-        ensures length { result ≡ length (seen self.now) }
-        ensures rising { AreRising 0 result (mine self.now) }
+        ensures length { holding self.now ≡ false → result ≡ length (seen self.now) }
+        ensures rising { holding self.now ≡ false → AreRising 0 result (mine self.now) }
     {
         self.seen_len
     }
@@ -43,7 +44,7 @@ impl<S: Journaled> Turn<S> {
     pub fn new(
         alloc: Global,
         state: S,
-    ) -> Result<(Turn<S>, Pass<S::Entry, S::Fixed>), (AllocError, S)>
+    ) -> Result<(Turn<S>, Pass<S::Entry, S::Fixed>), (NoMemory, S)>
         requires uncalled { callers S.by (S.history state) ≡ [] }
         ensures pass { IfOk result (λ t. IsPassOf t.0 t.1 × (holding t.1 ≡ false)) }
         ensures caller { IfOk result (λ t. caller_number t.1 ≡ 0) }
@@ -54,7 +55,7 @@ impl<S: Journaled> Turn<S> {
     {
         let about = Snapshot::of(&state);
         let Ok(mut slots) = Vec::with_capacity(alloc, 1) else {
-            return Err((AllocError, state));
+            return Err((NoMemory, state));
         };
         slots.push_reserved(Some(state));
         match Table::new(alloc, &[0], slots, &about) {
@@ -71,7 +72,7 @@ impl<S: Journaled> Turn<S> {
                 let mut slots = refused.slots;
                 let state = slots.pop().unwrap().unwrap();
                 slots.destroy_empty();
-                Err((AllocError, state))
+                Err((NoMemory, state))
             }
         }
     }

@@ -86,7 +86,7 @@ fn new_turn(alloc: Global) -> Result<(Turn<Log>, LogPass), AllocError>
     };
     match Turn::new(alloc, log) {
         Ok(made) => Ok(made),
-        Err((error, _log)) => Err(error),
+        Err((_, _log)) => Err(AllocError),
     }
 }
 
