@@ -1,0 +1,2 @@
+pub mod HandleMaps
+pub mod Slots
