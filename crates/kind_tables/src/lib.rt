@@ -1,0 +1,12 @@
+// The table of the kinds of objects that a device has and of their parameters: which subtypes each type
+// has, how kinds stand above one another, and for each parameter its type and the value that stands where
+// it was not set. The code and the definitions of all layers above read this one table.
+#![tactic(auto)]
+
+pub mod kinds;
+pub mod rows;
+#[cfg(test)]
+mod tests;
+
+pub use kinds::{Kind, kind_of, rank, subtypes_of};
+pub use rows::{Row, parameters_of, row_of};
