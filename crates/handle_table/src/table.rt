@@ -4,7 +4,7 @@ ghost use Rattle.std.specs.Borrow.{Lends, LendsIf, sem};
 ghost use Rattle.std.specs.BTreeMap.{is_at};
 ghost use Rattle.std.specs.Map.{remove_entry};
 ghost use Rattle.std.specs.Ordering.{nat_cmp};
-ghost use Rattle.handle_table.specs.HandleMaps.{value_at, with_value, ChangesAt};
+ghost use Rattle.handle_table.specs.HandleMaps.{value_at, with_value, ChangesAt, RiseWithin};
 ghost use Rattle.handle_table.specs.Slots.{value_of};
 
 use dev_types::{Handle, NoMemory};
@@ -114,6 +114,7 @@ impl<T> Table<T> {
     pub fn next(&self) -> Handle
         ensures value { result ≡ self.now.next }
         ensures unused { value_at self.now result ≡ None }
+        ensures rising { RiseWithin 1 result self.now.entries }
     {
         Handle(self.slots.len() as u64 + 1)
     }
