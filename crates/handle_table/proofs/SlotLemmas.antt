@@ -10,7 +10,7 @@ use Rattle.std.specs.Cmp.{nat_cmp_is}
 use Rattle.std.specs.declared.cmp.Ordering.TheVariants.{Less, Equal, Greater}
 use Rattle.handle_table.specs.declared.table.Slot.{Slot}
 use Rattle.handle_table.specs.declared.table.Slot.TheVariants.{Empty, Filled}
-use Rattle.handle_table.specs.HandleMaps.{HandleMap, ChangesAt}
+use Rattle.handle_table.specs.HandleMaps.{HandleMap, ChangesAt, RiseWithin}
 use Rattle.handle_table.specs.Slots.{value_of, entries_from}
 
 -- a handle is at itself
@@ -154,3 +154,16 @@ module _ {T : Type 0} where
             ∙ lookup-append_other (is_at (nat_cmp other)) (entries_from 1 slots) (1 + length slots) value (is_at-other other (1 + length slots) (λ e. differs (e ∙ sym here)))
             ∙ sym (ap (lookup (is_at (nat_cmp other))) was);
       }
+
+  -- handles that rise from a later one on rise from an earlier one on
+  pub RiseWithin-earlier : (es : List (ℕ × T)) (from later end : ℕ) → from ≤ later → RiseWithin later end es → RiseWithin from end es
+  RiseWithin-earlier [] from later end order rise = omega (arith, order, rise)
+  RiseWithin-earlier (entry ∷ rest) from later end order rise = (omega (arith, order, rise.0), rise.1)
+
+  -- the handles of the slots rise from the first to before the next
+  pub RiseWithin-entries_from : (slots : List (Slot T)) (first end : ℕ) → end ≡ first + length slots → RiseWithin first end (entries_from first slots)
+  RiseWithin-entries_from [] first end ends = omega (arith, ends)
+  RiseWithin-entries_from (Empty ∷ rest) first end ends =
+      RiseWithin-earlier (entries_from (first + 1) rest) first (first + 1) end (omega arith) (RiseWithin-entries_from rest (first + 1) end (omega (arith, ends)))
+  RiseWithin-entries_from (Filled value ∷ rest) first end ends =
+      (omega arith, RiseWithin-entries_from rest (first + 1) end (omega (arith, ends)))

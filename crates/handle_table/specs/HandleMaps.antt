@@ -1,5 +1,5 @@
 -- A table of values by handle, as contracts see it.
-use Rattle.std.specs.Prelude.{◌≡◌, ◌≢◌, ℕ, List, Option, refl}
+use Rattle.std.specs.Prelude.{◌≡◌, ◌≢◌, ℕ, ◌+◌, ◌≤◌, List, [], ◌∷◌, Option, refl}
 use Rattle.std.specs.BTreeMap.{is_at}
 use Rattle.std.specs.Map.{lookup, set_value}
 use Rattle.std.specs.Ordering.{nat_cmp}
@@ -35,3 +35,8 @@ module _ {T : Type 0} where
   pub record ChangesAt (old new : HandleMap T) (h : ℕ) (value : Option T) : Type 0 where
     pub changed : value_at new h ≡ value
     pub others : (other : ℕ) → other ≢ h → value_at new other ≡ value_at old other
+
+  -- the handles rise from one on, and end before another
+  abbrev pub RiseWithin : ℕ → ℕ → List (ℕ × T) → Type 0
+  RiseWithin from end [] = from ≤ end
+  RiseWithin from end (entry ∷ rest) = (from ≤ entry.0) × RiseWithin (entry.0 + 1) end rest

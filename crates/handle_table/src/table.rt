@@ -4,7 +4,7 @@ ghost use Rattle.std.specs.Borrow.{Lends, LendsIf, sem};
 ghost use Rattle.std.specs.BTreeMap.{is_at};
 ghost use Rattle.std.specs.Map.{remove_entry};
 ghost use Rattle.std.specs.Ordering.{nat_cmp};
-ghost use Rattle.handle_table.specs.HandleMaps.{value_at, with_value, ChangesAt};
+ghost use Rattle.handle_table.specs.HandleMaps.{value_at, with_value, ChangesAt, RiseWithin};
 ghost use Rattle.handle_table.specs.Slots.{value_of};
 
 use dev_types::{Handle, NoMemory};
@@ -12,8 +12,8 @@ use std::alloc::Global;
 use std::marker::Model;
 use std::mem;
 
-/// Values by handle. A value gets the next handle when it is put in, and keeps it until it is taken
-/// out; after that the handle stands for nothing.
+/// Values by handle. A value gets the next handle when it is put in, 1 at first, and keeps it until it
+/// is taken out; after that the handle stands for nothing.
 #[derive(Drop)]
 pub struct Table<T> {
     // The value of handle h is in slot h - 1.
@@ -90,7 +90,8 @@ impl<T> Table<T> {
         }
     }
 
-    /// Makes room for at least one more insertion.
+    /// Makes room for at least one more insertion. `NoMemory` only where there was none and no memory is
+    /// found; the values stay in either case.
     pub fn reserve(&mut self, _alloc: Global) -> Result<(), NoMemory>
         ensures room { OnOk result (1 ≤ self.new.spare) }
         ensures had_room { 1 ≤ self.old.spare → IsOk result }
@@ -114,6 +115,7 @@ impl<T> Table<T> {
     pub fn next(&self) -> Handle
         ensures value { result ≡ self.now.next }
         ensures unused { value_at self.now result ≡ None }
+        ensures rising { RiseWithin 1 result self.now.entries }
     {
         Handle(self.slots.len() as u64 + 1)
     }
