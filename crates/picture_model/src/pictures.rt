@@ -75,6 +75,10 @@ pub fn shade(primitives: &[Primitive], lighting: &Lighting, ray: &Ray) -> [u8; 4
     for _ in primitives {
         let Some(hit) = next else { break };
         blend_any(lighting, ray, hit_row(primitives, &hit), &mut blend);
+        if blend.rest == 0 {
+            // Nothing shows behind what lets no light through.
+            return finish_blend(lighting, &blend);
+        }
         next = hit_after(ray, primitives, &hit);
     }
     finish_blend(lighting, &blend)
