@@ -7,8 +7,8 @@ use Rattle.fx_math.specs.declared.scene.Lighting.{Lighting}
 use Rattle.fx_math.specs.declared.scene.Shape.TheVariants.{Triangle}
 use Rattle.picture_model.specs.Pictures.{no_id, picture}
 use Rattle.picture_model.specs.declared.records.Plane.TheVariants.{Color}
-use Rattle.picture_model.specs.declared.records.Primitive.{Primitive}
-use Rattle.picture_model.specs.declared.records.Scene.{Scene}
+use Rattle.fx_math.specs.declared.scene.Primitive.{Primitive}
+use Rattle.fx_math.specs.declared.scene.Scene.{Scene}
 use Rattle.ppm_out.specs.Ppm.{ppm}
 use Rattle.anari_replay.specs.declared.first_trace.FirstTrace.{FirstTrace}
 

@@ -226,3 +226,26 @@ fn an_answer_and_its_copy_list_the_same(rt: HostRuntime) -> Result<(), Fail> {
     assert_eq!(rt; names.into_vec().len(), 1);
     Ok(())
 }
+
+#[test]
+fn types_channels_and_origins_have_their_words(rt: HostRuntime) -> Result<(), Fail> {
+    let words = [
+        (DataType::ScalarMat34, "SCALAR_MAT34", "SCALAR_MAT34"),
+        (DataType::Ufixed8Vec4, "UFIXED8_VEC4", "UFIXED8_VEC4"),
+        (DataType::Str, "STRING", "STRING"),
+        (DataType::TypeName, "DATA_TYPE", "DATA_TYPE"),
+        (DataType::Array1D, "ARRAY1D", "array1d"),
+        (DataType::World, "WORLD", "world"),
+    ];
+    for (ty, name, word) in words {
+        assert!(rt; ty.name() == name && ty.word() == word, "of {name}");
+        assert!(rt; DataType::named(name) == Some(ty), "of {name}");
+    }
+    assert!(rt; DataType::named("camera").is_none() && DataType::worded("CAMERA").is_none());
+    assert!(rt; DataType::worded("camera") == Some(DataType::Camera));
+    assert!(rt; Channel::PrimitiveId.name() == "channel.primitiveId");
+    assert!(rt; Channel::named("channel.instanceId") == Some(Channel::InstanceId));
+    assert!(rt; Channel::named("channel.depth").is_none());
+    assert!(rt; Origin::Captured(7).word() == "captured" && Origin::Managed.word() == "managed");
+    Ok(())
+}

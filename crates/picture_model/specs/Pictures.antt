@@ -5,9 +5,9 @@ use Rattle.std.specs.Option.{option_and_then, option_map, unwrap_or}
 use Rattle.fx_math.specs.declared.vectors.Ray.{Ray}
 use Rattle.picture_model.specs.declared.records.Plane.{Plane}
 use Rattle.picture_model.specs.declared.records.Plane.TheVariants.{Color, PrimitiveId, ObjectId, InstanceId}
-use Rattle.picture_model.specs.declared.records.Primitive.{Primitive}
+use Rattle.fx_math.specs.declared.scene.Primitive.{Primitive}
 use Rattle.picture_model.specs.declared.records.Rect.{Rect}
-use Rattle.picture_model.specs.declared.records.Scene.{Scene}
+use Rattle.fx_math.specs.declared.scene.Scene.{Scene}
 use Rattle.picture_model.specs.Hits.{nearest}
 use Rattle.picture_model.specs.Rays.{camera_ray}
 use Rattle.picture_model.specs.Shading.{placed, primitive_at, shade}
