@@ -1,0 +1,64 @@
+-- The triangles and spheres of a geometry (ANARI 1.0 Specification, Geometry: triangle, sphere).
+use Rattle.std.specs.Prelude.{ℕ, ℤ, pos, ◌+◌, ◌*◌, ◌/◌, List, [], ◌∷◌, Option, Some, None, codes, length, map, slice_index_or}
+use Rattle.std.specs.List.{range_with_len}
+use Rattle.std.specs.List.{zip}
+use Rattle.std.specs.Option.{unwrap_or}
+use Rattle.dev_types.specs.declared.values.Value.{Value}
+use Rattle.fx_math.specs.Mat34.{placed, scaled_radius}
+use Rattle.fx_math.specs.declared.scene.Shape.{Shape}
+use Rattle.fx_math.specs.declared.scene.Shape.TheVariants.{Triangle, Sphere}
+use Rattle.fx_math.specs.declared.transforms.Mat34.{Mat34}
+use Rattle.fx_math.specs.declared.vectors.Vec3.{Vec3}
+use Rattle.kind_tables.specs.SceneObjects.{SceneObject, SceneObjects, array_named, indices_in, scalar_in, value_at, vector, vector_in}
+use Rattle.kind_tables.specs.declared.kinds.Kind.{Kind}
+use Rattle.kind_tables.specs.declared.kinds.Kind.TheVariants.{GeometrySphere, GeometryTriangle}
+
+-- the positions that a geometry was given
+abbrev pub positions_of : SceneObjects → SceneObject → List Vec3
+positions_of objects geometry = map (λ v. vector_in (Some v)) (unwrap_or (array_named objects geometry (codes "vertex.position")) [])
+
+-- vertex i
+abbrev pub vertex : List Vec3 → ℕ → Vec3
+vertex positions i = slice_index_or positions i (vector [])
+
+-- the vertices of triangle k where no index tells them
+abbrev pub next_three : ℕ → List ℕ
+next_three k = (3 * k) ∷ (3 * k + 1) ∷ (3 * k + 2) ∷ []
+
+-- the vertex numbers of each triangle: its index, or three vertices after three, and those that are left over are not used
+abbrev pub corners_by : Option (List Value) → ℕ → List (List ℕ)
+corners_by (Some indices) count = map (λ v. indices_in (Some v)) indices
+corners_by None count = map next_three (range_with_len 0 (count / 3))
+
+abbrev pub corners_of : SceneObjects → SceneObject → List (List ℕ)
+corners_of objects geometry = corners_by (array_named objects geometry (codes "primitive.index")) (length (positions_of objects geometry))
+
+-- vertex number i of a triangle, in world space
+abbrev pub corner : Mat34 → List Vec3 → List ℕ → ℕ → Vec3
+corner m positions corners i = placed m (vertex positions (slice_index_or corners i 0))
+
+-- the triangle with these vertices
+abbrev pub triangle : Mat34 → List Vec3 → List ℕ → Shape
+triangle m positions corners = Triangle (corner m positions corners 0) (corner m positions corners 1) (corner m positions corners 2)
+
+-- the radius of each of `count` spheres: its own, or the one of all
+abbrev pub radii_by : Option (List Value) → ℤ → ℕ → List ℤ
+radii_by (Some radii) common count = map (λ v. scalar_in (Some v)) radii
+radii_by None common count = map (λ _. common) (range_with_len 0 count)
+
+abbrev pub radii_of : SceneObjects → SceneObject → List ℤ
+radii_of objects geometry =
+    radii_by (array_named objects geometry (codes "vertex.radius")) (scalar_in (value_at geometry (codes "radius"))) (length (positions_of objects geometry))
+
+-- the sphere with this centre and this radius; under a transform it stays a sphere
+abbrev pub sphere : Mat34 → Vec3 × ℤ → Shape
+sphere m ball = Sphere (placed m ball.0) (scaled_radius m ball.1)
+
+-- the shapes of a geometry of a kind, in world space
+abbrev pub shapes_by : Kind → SceneObjects → SceneObject → Mat34 → List Shape
+shapes_by GeometryTriangle objects geometry m = map (triangle m (positions_of objects geometry)) (corners_of objects geometry)
+shapes_by GeometrySphere objects geometry m = map (sphere m) (zip (positions_of objects geometry) (radii_of objects geometry))
+shapes_by _ objects geometry m = []
+
+unfoldable pub shapes_of : SceneObjects → SceneObject → Mat34 → List Shape
+shapes_of objects geometry m = shapes_by geometry.kind objects geometry m
