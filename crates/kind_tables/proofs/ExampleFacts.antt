@@ -25,12 +25,12 @@ unfolding add axis_length below broken_parameter column cross dot fault_of first
 frame_is_sound = refl
 
 pub sphere_row : primitives_of sphere_objects (walk sphere_objects 9) ≡ record {
-    place = record { inst = 2; surf = 0; prim = 0 };
-    shape = Sphere (record { x = pos 21; y = pos 42; z = pos 63 }) (pos 200);
-    color = pos 52429 ∷ pos 52429 ∷ pos 52429 ∷ [];
-    opacity = pos 32768;
-    object_id = 11;
-    instance_id = 22;
-  } ∷ []
+  place = record { inst = 2; surf = 0; prim = 0 };
+  shape = Sphere (record { x = pos 21; y = pos 42; z = pos 63 }) (pos 200);
+  color = pos 52429 ∷ pos 52429 ∷ pos 52429 ∷ [];
+  opacity = pos 32768;
+  object_id = 11;
+  instance_id = 22;
+} ∷ []
 unfolding add axis_length below column dot isqrt linear placed primitives_of root_at root_or_next row scaled_down scaled_radius shapes_of sphere_objects walk walk_from
 sphere_row = refl

@@ -1,12 +1,12 @@
 -- Small scenes, object by object, whose walks and rows are computed.
-use Rattle.std.specs.Prelude.{ℕ, ℤ, pos, negsuc, false, List, [], ◌∷◌, ◌++◌, Option, Some, None, codes}
+use Rattle.std.specs.Prelude.{ℕ, ℤ, pos, negsuc, false, List, [], ◌∷◌, Some, None, codes}
 use Rattle.std.specs.List.{flat_map}
 use Rattle.dev_types.specs.ValueBytes.{bytes_of}
 use Rattle.dev_types.specs.declared.data_types.DataType.{DataType}
 use Rattle.dev_types.specs.declared.data_types.DataType.TheVariants as ty
 use Rattle.dev_types.specs.declared.values.Value.{Value}
 use Rattle.dev_types.specs.declared.values.Value.TheVariants.{Scalar, ScalarVec3, ScalarMat34, Object, TypeName, Uint32, Uint32Vec2}
-use Rattle.kind_tables.specs.SceneObjects.{Block, SceneObject, SceneObjects}
+use Rattle.kind_tables.specs.SceneObjects.{SceneObject, SceneObjects}
 use Rattle.kind_tables.specs.declared.kinds.Kind.{Kind}
 use Rattle.kind_tables.specs.declared.kinds.Kind.TheVariants.{Array, CameraOrthographic, FrameDefault, GeometrySphere, GeometryTriangle, GroupDefault, InstanceTransform, MaterialMatte, RendererDefault, SurfaceDefault, WorldDefault}
 
@@ -37,10 +37,12 @@ triangle_objects =
     (5, dense ty.Surface 8 1 (Object ty.Surface 4 ∷ [])) ∷
     (6, with_parameters WorldDefault ((codes "surface", Object ty.Array1D 5) ∷ [])) ∷
     (7, with_parameters CameraOrthographic ((codes "height", Scalar (pos 262144)) ∷ (codes "position", xyz (pos 0) (pos 0) (pos 65536)) ∷ [])) ∷
-    (8, with_parameters RendererDefault []) ∷
-    (9, with_parameters FrameDefault (
-        (codes "camera", Object ty.Camera 7) ∷ (codes "channel.color", TypeName ty.Ufixed8Vec4) ∷ (codes "renderer", Object ty.Renderer 8) ∷
-        (codes "size", Uint32Vec2 (4 ∷ 4 ∷ [])) ∷ (codes "world", Object ty.World 6) ∷ [])) ∷ []
+    (8, with_parameters RendererDefault []) ∷ (
+      9,
+      with_parameters FrameDefault (
+          (codes "camera", Object ty.Camera 7) ∷ (codes "channel.color", TypeName ty.Ufixed8Vec4) ∷ (codes "renderer", Object ty.Renderer 8) ∷
+          (codes "size", Uint32Vec2 (4 ∷ 4 ∷ [])) ∷ (codes "world", Object ty.World 6) ∷ []),
+    ) ∷ []
 
 -- a world with one sphere in a group under the second of two instances, the first of which is empty: the centre, the geometry, the
 -- material, the surface, its array, the group, the instance, the array of instances, the world
@@ -51,10 +53,14 @@ sphere_objects =
     (3, with_parameters MaterialMatte ((codes "opacity", Scalar (pos 32768)) ∷ [])) ∷
     (4, with_parameters SurfaceDefault ((codes "geometry", Object ty.Geometry 2) ∷ (codes "id", Uint32 11) ∷ (codes "material", Object ty.Material 3) ∷ [])) ∷
     (5, dense ty.Surface 8 1 (Object ty.Surface 4 ∷ [])) ∷
-    (6, with_parameters GroupDefault ((codes "surface", Object ty.Array1D 5) ∷ [])) ∷
-    (7, with_parameters InstanceTransform (
-        (codes "group", Object ty.Group 6) ∷ (codes "id", Uint32 22) ∷
-        (codes "transform", ScalarMat34 (
-            pos 131072 ∷ pos 0 ∷ pos 0 ∷ pos 0 ∷ pos 131072 ∷ pos 0 ∷ pos 0 ∷ pos 0 ∷ pos 131072 ∷ pos 1 ∷ pos 2 ∷ pos 3 ∷ [])) ∷ [])) ∷
+    (6, with_parameters GroupDefault ((codes "surface", Object ty.Array1D 5) ∷ [])) ∷ (
+      7,
+      with_parameters InstanceTransform (
+          (codes "group", Object ty.Group 6) ∷ (codes "id", Uint32 22) ∷ (
+            codes "transform",
+            ScalarMat34 (
+                pos 131072 ∷ pos 0 ∷ pos 0 ∷ pos 0 ∷ pos 131072 ∷ pos 0 ∷ pos 0 ∷ pos 0 ∷ pos 131072 ∷ pos 1 ∷ pos 2 ∷ pos 3 ∷ []),
+          ) ∷ []),
+    ) ∷
     (8, dense ty.Instance 8 2 (Object ty.Instance 0 ∷ Object ty.Instance 7 ∷ [])) ∷
     (9, with_parameters WorldDefault ((codes "instance", Object ty.Array1D 8) ∷ [])) ∷ []

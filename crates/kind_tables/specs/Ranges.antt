@@ -1,8 +1,8 @@
 -- Which values of which parameters are in range, and in which order they are asked within one visit (ANARI 1.0 Specification, the tables
 -- of parameters). A value is the committed one, or the default.
-use Rattle.std.specs.Prelude.{ℕ, ℤ, pos, Bool, true, not, ◌&&◌, ◌==◌, ◌^◌, ◌++◌, nat_le, nat_lt, int_le, List, [], ◌∷◌, Option, Some, None, codes, length, map, take, if◌then◌else◌}
+use Rattle.std.specs.Prelude.{ℕ, ℤ, pos, Bool, true, not, ◌&&◌, ◌==◌, ◌^◌, ◌++◌, nat_le, nat_lt, int_le, List, [], ◌∷◌, Option, Some, None, codes, length, map, take}
 use Rattle.std.specs.List.{find, flat_map, list_all}
-use Rattle.std.specs.Option.{option_map, option_or}
+use Rattle.std.specs.Option.{option_map}
 use Rattle.dev_types.specs.Words.{name_of_channel}
 use Rattle.dev_types.specs.declared.data_types.DataType.{DataType}
 use Rattle.dev_types.specs.declared.data_types.DataType.TheVariants as ty
@@ -16,9 +16,9 @@ use Rattle.fx_math.specs.UnitVector.{unit}
 use Rattle.fx_math.specs.Vec3.{cross, reach}
 use Rattle.fx_math.specs.declared.transforms.Mat34.{Mat34}
 use Rattle.fx_math.specs.declared.vectors.Vec3.{Vec3}
-use Rattle.kind_tables.specs.SceneObjects.{SceneObject, SceneObjects, array_named, scalar_in, scalars_in, sizes_in, value_at, value_named, vector_in}
+use Rattle.kind_tables.specs.SceneObjects.{SceneObject, SceneObjects, array_named, scalar_in, scalars_in, sizes_in, value_at, vector_in}
 use Rattle.kind_tables.specs.Shapes.{corners_of, positions_of, vertex}
-use Rattle.kind_tables.specs.Walks.{Spot, Visit}
+use Rattle.kind_tables.specs.Walks.{Visit}
 use Rattle.kind_tables.specs.declared.kinds.Kind.{Kind}
 use Rattle.kind_tables.specs.declared.kinds.Kind.TheVariants.{CameraOrthographic, CameraPerspective, FrameDefault, GeometrySphere, GeometryTriangle, LightDirectional, LightPoint, MaterialMatte, RendererDefault}
 

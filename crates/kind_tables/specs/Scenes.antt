@@ -2,7 +2,7 @@
 -- Surface, Light, Camera, Renderer).
 use Rattle.std.specs.Prelude.{ℕ, false, List, [], Option, Some, None, codes, map, slice_index_or}
 use Rattle.std.specs.List.{enumerate_from, filter_map, flat_map}
-use Rattle.std.specs.Option.{option_and_then, option_map, unwrap_or}
+use Rattle.std.specs.Option.{option_map, unwrap_or}
 use Rattle.fx_math.specs.Mat34.{linear, placed}
 use Rattle.fx_math.specs.declared.scene.CameraRow.{CameraRow}
 use Rattle.fx_math.specs.declared.scene.CameraRow.TheVariants.{Orthographic, Perspective}
@@ -12,7 +12,6 @@ use Rattle.fx_math.specs.declared.scene.LightRow.TheVariants.{Directional, Point
 use Rattle.fx_math.specs.declared.scene.Primitive.{Primitive}
 use Rattle.fx_math.specs.declared.scene.Scene.{Scene}
 use Rattle.fx_math.specs.declared.scene.Shape.{Shape}
-use Rattle.fx_math.specs.declared.vectors.Vec3.{Vec3}
 use Rattle.kind_tables.specs.SceneObjects.{SceneObject, SceneObjects, id_in, object_at, object_named, scalar_in, scalars_in, sizes_in, value_at, vector_in}
 use Rattle.kind_tables.specs.Shapes.{shapes_of}
 use Rattle.kind_tables.specs.Walks.{Spot, Visit, walk}
@@ -56,10 +55,10 @@ primitives_of objects visits = flat_map (primitives_at objects) visits
 abbrev pub light_by : Kind → Spot → SceneObject → Option LightRow
 light_by LightDirectional spot o =
     Some (Directional (linear spot.transform (vector_in (value_at o (codes "direction"))))
-        (scalars_in (value_at o (codes "color"))) (scalar_in (value_at o (codes "irradiance"))))
+    (scalars_in (value_at o (codes "color"))) (scalar_in (value_at o (codes "irradiance"))))
 light_by LightPoint spot o =
     Some (Point (placed spot.transform (vector_in (value_at o (codes "position"))))
-        (scalars_in (value_at o (codes "color"))) (scalar_in (value_at o (codes "intensity"))))
+    (scalars_in (value_at o (codes "color"))) (scalar_in (value_at o (codes "intensity"))))
 light_by _ spot o = None
 
 abbrev pub light_at : Visit → Option LightRow
@@ -73,10 +72,10 @@ lights_of visits = filter_map light_at visits
 abbrev pub camera_by : Kind → SceneObject → CameraRow
 camera_by CameraPerspective o =
     Perspective (vector_in (value_at o (codes "position"))) (vector_in (value_at o (codes "direction"))) (vector_in (value_at o (codes "up")))
-        (scalar_in (value_at o (codes "aspect"))) (scalar_in (value_at o (codes "tanHalfFovy")))
+    (scalar_in (value_at o (codes "aspect"))) (scalar_in (value_at o (codes "tanHalfFovy")))
 camera_by _ o =
     Orthographic (vector_in (value_at o (codes "position"))) (vector_in (value_at o (codes "direction"))) (vector_in (value_at o (codes "up")))
-        (scalar_in (value_at o (codes "aspect"))) (scalar_in (value_at o (codes "height")))
+    (scalar_in (value_at o (codes "aspect"))) (scalar_in (value_at o (codes "height")))
 
 -- an object that names nothing and has no values, which stands where none is; the scene of a complete frame has none of it
 abbrev pub nothing_of : Kind → SceneObject

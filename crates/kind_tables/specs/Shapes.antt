@@ -1,5 +1,5 @@
 -- The triangles and spheres of a geometry (ANARI 1.0 Specification, Geometry: triangle, sphere).
-use Rattle.std.specs.Prelude.{ℕ, ℤ, pos, ◌+◌, ◌*◌, ◌/◌, List, [], ◌∷◌, Option, Some, None, codes, length, map, slice_index_or}
+use Rattle.std.specs.Prelude.{ℕ, ℤ, ◌+◌, ◌*◌, ◌/◌, List, [], ◌∷◌, Option, Some, None, codes, length, map, slice_index_or}
 use Rattle.std.specs.List.{range_with_len}
 use Rattle.std.specs.List.{zip}
 use Rattle.std.specs.Option.{unwrap_or}

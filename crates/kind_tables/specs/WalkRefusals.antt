@@ -1,5 +1,5 @@
 -- Why a walk is refused. Of all visits the lowest number of a refusal comes first, and within one number the first visit.
-use Rattle.std.specs.Prelude.{ℕ, Bool, true, false, not, ◌&&◌, nat_lt, List, [], ◌∷◌, Option, Some, None, length, if◌then◌else◌}
+use Rattle.std.specs.Prelude.{ℕ, Bool, true, false, ◌&&◌, nat_lt, List, [], ◌∷◌, Option, Some, None, length, if◌then◌else◌}
 use Rattle.std.specs.List.{filter, find}
 use Rattle.std.specs.Option.{is_none, option_map, option_or}
 use Rattle.dev_types.specs.declared.refusals.Refused.{Refused}

@@ -1,6 +1,6 @@
 -- The walk through the objects of a scene, from a frame or a world down (ANARI 1.0 Specification, World, Group, Instance, Surface). An
 -- object is visited before what it names, and what it names in the order of its parameters and its elements.
-use Rattle.std.specs.Prelude.{ℕ, zero, suc, ◌+◌, List, [], ◌∷◌, ◌++◌, Option, Some, None, codes, map}
+use Rattle.std.specs.Prelude.{ℕ, zero, suc, ◌+◌, List, [], ◌∷◌, ◌++◌, codes, map}
 use Rattle.std.specs.List.{filter_map, flat_map}
 use Rattle.std.specs.Option.{option_and_then, option_map, unwrap_or}
 use Rattle.dev_types.specs.declared.data_types.DataType.TheVariants as ty

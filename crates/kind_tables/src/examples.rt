@@ -29,11 +29,11 @@ pub fn a_sound_frame()
 #[tactic(auto, using(crate::proofs::ExampleFacts::sphere_row))]
 pub fn the_row_of_a_sphere_under_an_instance()
     ensures { primitives_of sphere_objects (walk sphere_objects 9) ≡ record {
-        place = record { inst = 2; surf = 0; prim = 0 };
-        shape = Sphere (record { x = pos 21; y = pos 42; z = pos 63 }) (pos 200);
-        color = pos 52429 ∷ pos 52429 ∷ pos 52429 ∷ [];
-        opacity = pos 32768;
-        object_id = 11;
-        instance_id = 22;
+      place = record { inst = 2; surf = 0; prim = 0 };
+      shape = Sphere (record { x = pos 21; y = pos 42; z = pos 63 }) (pos 200);
+      color = pos 52429 ∷ pos 52429 ∷ pos 52429 ∷ [];
+      opacity = pos 32768;
+      object_id = 11;
+      instance_id = 22;
     } ∷ [] }
 {}
