@@ -17,7 +17,7 @@ use Rattle.fx_math.specs.Vec3.{cross, reach}
 use Rattle.fx_math.specs.declared.transforms.Mat34.{Mat34}
 use Rattle.fx_math.specs.declared.vectors.Vec3.{Vec3}
 use Rattle.kind_tables.specs.SceneObjects.{SceneObject, SceneObjects, array_named, scalar_in, scalars_in, sizes_in, value_at, vector_in}
-use Rattle.kind_tables.specs.Shapes.{corners_of, positions_of, vertex}
+use Rattle.kind_tables.specs.Shapes.{common_radius, corners_of, own_radii, positions_of, vertex}
 use Rattle.kind_tables.specs.Walks.{Visit}
 use Rattle.kind_tables.specs.declared.kinds.Kind.{Kind}
 use Rattle.kind_tables.specs.declared.kinds.Kind.TheVariants.{CameraOrthographic, CameraPerspective, FrameDefault, GeometrySphere, GeometryTriangle, LightDirectional, LightPoint, MaterialMatte, RendererDefault}
@@ -127,16 +127,12 @@ radius_tests m (Some radii) common count =
     (codes "vertex.radius", nat_le count (length radii)) ∷ (codes "vertex.radius", list_all (is_radius m) (take count radii)) ∷ []
 radius_tests m None common count = (codes "radius", is_radius m common) ∷ []
 
--- the radii that spheres were given of their own
-abbrev pub own_radii : SceneObjects → SceneObject → Option (List ℤ)
-own_radii objects geometry = option_map (map (λ v. scalar_in (Some v))) (array_named objects geometry (codes "vertex.radius"))
-
 -- the ranges of a geometry under a transform: triangle by triangle; of spheres first all centres, then the radii
 abbrev pub geometry_tests : Kind → SceneObjects → SceneObject → Mat34 → List Test
 geometry_tests GeometryTriangle objects o m = flat_map (triangle_tests m (positions_of objects o)) (corners_of objects o)
 geometry_tests GeometrySphere objects o m =
     (codes "vertex.position", list_all (λ p. is_point (placed m p)) (positions_of objects o)) ∷
-    radius_tests m (own_radii objects o) (scalar_of o (codes "radius")) (length (positions_of objects o))
+    radius_tests m (own_radii objects o) (common_radius o) (length (positions_of objects o))
 geometry_tests _ objects o m = []
 
 -- the first parameter of a visited object that is out of range

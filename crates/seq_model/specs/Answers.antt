@@ -1,9 +1,8 @@
--- Which replies a call may have after a past, and which histories are legal.
-use Rattle.std.specs.Prelude.{◌≡◌, ◌⊎◌, ℕ, ℤ, zero, suc, pos, negsuc, ◌+◌, ◌-ℤ◌, ◌+ℤ◌, ◌<◌, ◌≤◌, ◌==◌, Bool, true, false, List, [], ◌∷◌, ◌++◌, All, Option, Some, None, IsTrue, codes, length, map, fold}
-use Rattle.std.specs.List.{filter, flat_map, list_all, list_any}
-use Rattle.std.specs.Option.{MatchOption, option_map, option_and_then, option_map_or, option_or, unwrap_or}
+-- Which replies a call may have after a past.
+use Rattle.std.specs.Prelude.{◌≡◌, ℕ, ℤ, zero, suc, pos, negsuc, ◌-ℤ◌, ◌+ℤ◌, ◌<◌, Bool, true, false, List, [], ◌∷◌, Option, Some, None, map, fold}
+use Rattle.std.specs.List.{flat_map}
+use Rattle.std.specs.Option.{MatchOption, option_map, option_and_then, option_map_or}
 use Rattle.std.specs.Int.{int_max, int_min}
-use Rattle.dev_types.specs.declared.data_types.DataType.{DataType}
 use Rattle.dev_types.specs.declared.handles.Channel.{Channel}
 use Rattle.dev_types.specs.declared.refusals.Refused.{Refused}
 use Rattle.dev_types.specs.declared.refusals.Refused.TheVariants.{InFlight}
@@ -26,7 +25,7 @@ use Rattle.seq_model.specs.Refusals.{phase_at, refusal, walk_at}
 use Rattle.seq_model.specs.State.{Phase, Empty, Flight, Done, object_at, scene_objects}
 use Rattle.seq_model.specs.Steps.{Past, next_place}
 use Rattle.seq_model.specs.declared.calls.Call.{Call}
-use Rattle.seq_model.specs.declared.calls.Call.TheVariants.{NewObject, NewArray, Retain, Release, SetParameter, UnsetParameter, UnsetAll, Commit, MapArray, UnmapArray, MapParameterArray, UnmapParameterArray, RenderFrame, FrameReady, DiscardFrame, MapFrame, UnmapFrame, GetProperty, Subtypes, ObjectInfo, ParameterInfo}
+use Rattle.seq_model.specs.declared.calls.Call.TheVariants.{NewObject, NewArray, MapArray, MapParameterArray, UnmapParameterArray, FrameReady, MapFrame, GetProperty, Subtypes, ObjectInfo, ParameterInfo}
 use Rattle.seq_model.specs.declared.calls.Reply.{Reply}
 use Rattle.seq_model.specs.declared.calls.Reply.TheVariants as reply
 

@@ -1,7 +1,7 @@
 -- Which objects live: those that can be reached from public references, loans and flights (ANARI 1.0 Specification, object lifetime).
 use Rattle.std.specs.Prelude.{ℕ, zero, suc, ◌+◌, ◌==◌, ◌||◌, nat_lt, Bool, List, [], ◌++◌, Option, count_by, length, map}
 use Rattle.std.specs.List.{filter, filter_map, list_any, sum_by}
-use Rattle.std.specs.Option.{is_some, option_and_then, option_map, option_map_or, unwrap_or}
+use Rattle.std.specs.Option.{option_map, option_map_or, unwrap_or}
 use Rattle.dev_types.specs.declared.values.Value.{Value}
 use Rattle.kind_tables.specs.SceneObjects.{object_in, objects_in}
 use Rattle.seq_model.specs.State.{ArrayState, Object, State, array_loan, flights}

@@ -1,6 +1,6 @@
 -- The pictures of a history. A picture shows the scene that was committed where its render stands, whatever came after (ANARI 1.0
 -- Specification, Frame).
-use Rattle.std.specs.Prelude.{ℕ, Bool, List, Option, Some, None}
+use Rattle.std.specs.Prelude.{ℕ, Bool, List}
 use Rattle.std.specs.Option.{is_some, option_and_then, unwrap_or}
 use Rattle.dev_types.specs.Words.{name_of_channel}
 use Rattle.dev_types.specs.declared.handles.Channel.{Channel}

@@ -1,7 +1,7 @@
 -- Why a call is refused after a past. A call that several refusals apply to is refused with the one of the lowest number.
-use Rattle.std.specs.Prelude.{ℕ, zero, suc, ◌+◌, ◌*◌, ◌==◌, ◌^◌, ◌&&◌, ◌||◌, not, nat_lt, Bool, true, false, List, [], ◌∷◌, ◌++◌, Option, Some, None, codes, length, map, if◌then◌else◌}
-use Rattle.std.specs.List.{find, list_any}
-use Rattle.std.specs.Option.{is_none, is_some, option_and_then, option_map, option_map_or, option_or, unwrap_or}
+use Rattle.std.specs.Prelude.{ℕ, zero, suc, ◌*◌, ◌==◌, ◌^◌, ◌&&◌, ◌||◌, not, nat_lt, Bool, true, false, List, [], ◌∷◌, ◌++◌, Option, Some, None, codes, length, map, if◌then◌else◌}
+use Rattle.std.specs.List.{list_any}
+use Rattle.std.specs.Option.{is_none, is_some, option_and_then, option_map, option_map_or}
 use Rattle.std.specs.Str.{bytes_eq}
 use Rattle.dev_types.specs.Blocks.{needed_length}
 use Rattle.dev_types.specs.DataTypes.{byte_size, is_element_type, is_object_type, type_number}
@@ -11,22 +11,22 @@ use Rattle.dev_types.specs.declared.data_types.DataType.{DataType}
 use Rattle.dev_types.specs.declared.data_types.DataType.TheVariants as ty
 use Rattle.dev_types.specs.declared.handles.Channel.{Channel}
 use Rattle.dev_types.specs.declared.handles.Origin.{Origin}
-use Rattle.dev_types.specs.declared.handles.Origin.TheVariants.{Captured, Shared, Managed}
+use Rattle.dev_types.specs.declared.handles.Origin.TheVariants.{Managed}
 use Rattle.dev_types.specs.declared.refusals.Refused.{Refused}
 use Rattle.dev_types.specs.declared.refusals.Refused.TheVariants.{BadHandle, NotHeld, WrongKind, BadSubtype, BadType, UnknownObjectParameter, BadShape, ArrayMapped, NotMapped, InFlight, NoPicture, ChannelMapped, NoChannel, NoSuchName}
 use Rattle.dev_types.specs.declared.values.Value.{Value}
 use Rattle.dev_types.specs.declared.values.Value.TheVariants as value
 use Rattle.kind_tables.specs.Kinds.{kind_of, subtypes_of, type_of_kind}
 use Rattle.kind_tables.specs.Rows.{row_of}
-use Rattle.kind_tables.specs.SceneObjects.{Block, objects_in}
+use Rattle.kind_tables.specs.SceneObjects.{objects_in}
 use Rattle.kind_tables.specs.WalkRefusals.{fault_of, first_answer, first_mapped, walk_refusal}
 use Rattle.kind_tables.specs.Walks.{Visit, walk}
 use Rattle.kind_tables.specs.declared.kinds.Kind.{Kind}
-use Rattle.kind_tables.specs.declared.kinds.Kind.TheVariants.{Array, FrameDefault, WorldDefault}
+use Rattle.kind_tables.specs.declared.kinds.Kind.TheVariants.{FrameDefault, WorldDefault}
 use Rattle.kind_tables.specs.declared.rows.Row.{Row}
 use Rattle.seq_model.specs.Histories.{public}
 use Rattle.seq_model.specs.Pictures.{has_channel, tiles_at}
-use Rattle.seq_model.specs.State.{ArrayState, Object, ParameterLoan, Phase, Empty, Flight, Done, State, array_loan, object_at, scene_objects}
+use Rattle.seq_model.specs.State.{ArrayState, ParameterLoan, Phase, Empty, Flight, Done, State, array_loan, object_at, scene_objects}
 use Rattle.seq_model.specs.Steps.{Past}
 use Rattle.seq_model.specs.declared.calls.Call.{Call}
 use Rattle.seq_model.specs.declared.calls.Call.TheVariants.{NewObject, NewArray, Retain, Release, SetParameter, UnsetParameter, UnsetAll, Commit, MapArray, UnmapArray, MapParameterArray, UnmapParameterArray, RenderFrame, FrameReady, DiscardFrame, MapFrame, UnmapFrame, GetProperty, Subtypes, ObjectInfo, ParameterInfo}
