@@ -16,7 +16,7 @@ use Rattle.fx_math.specs.UnitVector.{unit}
 use Rattle.fx_math.specs.Vec3.{cross, reach}
 use Rattle.fx_math.specs.declared.transforms.Mat34.{Mat34}
 use Rattle.fx_math.specs.declared.vectors.Vec3.{Vec3}
-use Rattle.kind_tables.specs.SceneObjects.{SceneObject, SceneObjects, array_named, scalar_in, scalars_in, sizes_in, value_at, vector_in}
+use Rattle.kind_tables.specs.SceneObjects.{SceneObject, SceneObjects, scalar_of, scalars_of, sizes_in, value_at, vector_of}
 use Rattle.kind_tables.specs.Shapes.{common_radius, corners_of, own_radii, positions_of, vertex}
 use Rattle.kind_tables.specs.Walks.{Visit}
 use Rattle.kind_tables.specs.declared.kinds.Kind.{Kind}
@@ -67,16 +67,6 @@ Test = List ℕ × Bool
 -- the first name whose value is out of range
 abbrev pub first_broken : List Test → Option (List ℕ)
 first_broken tests = option_map (λ test. test.0) (find (λ test. not test.1) tests)
-
--- the numbers of an object's parameters
-abbrev scalar_of : SceneObject → List ℕ → ℤ
-scalar_of o name = scalar_in (value_at o name)
-
-abbrev scalars_of : SceneObject → List ℕ → List ℤ
-scalars_of o name = scalars_in (value_at o name)
-
-abbrev vector_of : SceneObject → List ℕ → Vec3
-vector_of o name = vector_in (value_at o name)
 
 -- a scalar within two ends, one that is 0 or more, and a colour
 abbrev between : ℤ → ℤ → SceneObject → List ℕ → Test

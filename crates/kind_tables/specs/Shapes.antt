@@ -8,7 +8,7 @@ use Rattle.fx_math.specs.declared.scene.Shape.{Shape}
 use Rattle.fx_math.specs.declared.scene.Shape.TheVariants.{Triangle, Sphere}
 use Rattle.fx_math.specs.declared.transforms.Mat34.{Mat34}
 use Rattle.fx_math.specs.declared.vectors.Vec3.{Vec3}
-use Rattle.kind_tables.specs.SceneObjects.{SceneObject, SceneObjects, array_named, indices_in, scalar_in, value_at, vector, vector_in}
+use Rattle.kind_tables.specs.SceneObjects.{SceneObject, SceneObjects, array_named, indices_in, scalar_in, scalar_of, vector, vector_in}
 use Rattle.kind_tables.specs.declared.kinds.Kind.{Kind}
 use Rattle.kind_tables.specs.declared.kinds.Kind.TheVariants.{GeometrySphere, GeometryTriangle}
 
@@ -46,7 +46,7 @@ own_radii objects geometry = option_map (map (λ v. scalar_in (Some v))) (array_
 
 -- the radius of all spheres that have none of their own
 abbrev pub common_radius : SceneObject → ℤ
-common_radius geometry = scalar_in (value_at geometry (codes "radius"))
+common_radius geometry = scalar_of geometry (codes "radius")
 
 -- the radius of sphere k: its own, or the one of all
 abbrev pub radius_by : Option (List ℤ) → ℤ → ℕ → ℤ

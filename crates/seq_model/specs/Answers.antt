@@ -58,16 +58,15 @@ abbrev pub progress_of : Phase → ℤ
 progress_of (Done _) = pos 65536
 progress_of _ = pos 0
 
--- the properties: the version of the device, the bounds of a world, the progress of a frame (ANARI 1.0 Specification, object properties)
-abbrev pub property_by : Past → ℕ → Option Kind → Value
-property_by past h None = value.Int32 (pos 1)
-property_by past h (Some WorldDefault) = value.ScalarBox3 (bounds_of (primitives_of (scene_objects past.state) (walk_at past h)))
-property_by past h (Some _) = value.Scalar (progress_of (phase_at past h))
+-- the properties of an object of a kind: the bounds of a world, the progress of a frame (ANARI 1.0 Specification, object properties)
+abbrev pub property_by : Past → ℕ → Kind → Value
+property_by past h WorldDefault = value.ScalarBox3 (bounds_of (primitives_of (scene_objects past.state) (walk_at past h)))
+property_by past h _ = value.Scalar (progress_of (phase_at past h))
 
--- handle 0 stands for the device
-abbrev pub property_of : Past → ℕ → Value
-property_of past zero = property_by past 0 None
-property_of past (suc h) = property_by past (suc h) (option_map (λ o. o.kind) (object_at past.state (suc h)))
+-- handle 0 stands for the device, which tells its version
+abbrev pub property_of : Past → ℕ → Option Value
+property_of past zero = Some (value.Int32 (pos 1))
+property_of past (suc h) = option_map (λ o. property_by past (suc h) o.kind) (object_at past.state (suc h))
 
 -- what a row tells of its parameter
 abbrev pub info_of : Row → ParamInfo
@@ -95,7 +94,7 @@ IsGranted past (MapParameterArray _ _ _ _) r = r ≡ reply.Lent (next_place past
 IsGranted past (UnmapParameterArray _ _ _ _) r = r ≡ reply.Made past.state.next
 IsGranted past (FrameReady h wait) r = IsReadiness past wait (phase_at past h) r
 IsGranted past (MapFrame h c) r = IsMapped past c (phase_at past h) r
-IsGranted past (GetProperty h name) r = r ≡ reply.Val (property_of past h)
+IsGranted past (GetProperty h name) r = MatchOption (property_of past h) ⊥ (λ v. r ≡ reply.Val v)
 IsGranted past (Subtypes t) r = r ≡ reply.Listed (subtypes_of t)
 IsGranted past (ObjectInfo t subtype) r = r ≡ reply.Listed (option_map_or parameters_of (kind_of t subtype) [])
 IsGranted past (ParameterInfo t subtype name) r =

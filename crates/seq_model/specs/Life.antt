@@ -28,7 +28,7 @@ names_of o = objects_of o.staged ++ objects_of o.committed ++ objects_of_element
 
 -- how many loans of an object are out: of an array, of a frame's channels, of arrays for its parameters
 abbrev pub loan_count : Object → ℕ
-loan_count o = option_map_or (λ _. 1) (array_loan o) 0 + length o.mapped + length o.parameter_loans
+loan_count o = option_map_or (λ _. 1) (array_loan o) 0 + length o.channels + length o.parameter_loans
 
 -- an object that lives by itself: it is held by the application, lent, or was reached by a flight
 unfoldable pub is_root : (ℕ → ℕ) → (ℕ → Bool) → ℕ × Object → Bool

@@ -54,7 +54,7 @@ pub record Object : Type 0 where
   pub parameter_loans : List ParameterLoan
   pub array : Option ArrayState
   pub phase : Phase
-  pub mapped : List (Channel × ℕ)
+  pub channels : List (Channel × ℕ)
 
 -- the objects by rising handle; the tickets of the flights that were stopped and have not left yet; and the handle of the next creation
 pub record State : Type 0 where

@@ -30,7 +30,7 @@ use Rattle.seq_model.specs.declared.calls.Reply.TheVariants as reply
 
 -- an object as it is made
 abbrev pub fresh : Kind → Option ArrayState → Object
-fresh kind array = record { kind = kind; staged = []; committed = []; parameter_loans = []; array = array; phase = Empty; mapped = [] }
+fresh kind array = record { kind = kind; staged = []; committed = []; parameter_loans = []; array = array; phase = Empty; channels = [] }
 
 -- so many bytes 0
 abbrev pub zeros : ℕ → List ℕ
@@ -83,10 +83,10 @@ abbrev pub set_phase : Phase → Object → Object
 set_phase phase o = record o { phase = phase }
 
 abbrev pub map_channel : Channel → ℕ → Object → Object
-map_channel channel place o = record o { mapped = o.mapped ++ (channel, place) ∷ [] }
+map_channel channel place o = record o { channels = o.channels ++ (channel, place) ∷ [] }
 
 abbrev pub unmap_channel : ℕ → Object → Object
-unmap_channel number o = record o { mapped = filter (λ m. not (m.1 == number)) o.mapped }
+unmap_channel number o = record o { channels = filter (λ m. not (m.1 == number)) o.channels }
 
 -- the ticket of a frame that is in flight joins those that were stopped
 abbrev pub stop : Phase → State → State
