@@ -30,18 +30,14 @@ at_origin = record { inst = 0; surf = 0; transform = record { c = identity }; in
 
 -- where element i of an array stands: surfaces are numbered in their array, and instances from 1 on
 abbrev pub at_element : Kind → Spot → ℕ → Spot
-at_element (Array ty.Surface) spot i = record { inst = spot.inst; surf = i; transform = spot.transform; instance_id = spot.instance_id }
-at_element (Array ty.Instance) spot i = record { inst = i + 1; surf = spot.surf; transform = spot.transform; instance_id = spot.instance_id }
+at_element (Array ty.Surface) spot i = record spot { surf = i }
+at_element (Array ty.Instance) spot i = record spot { inst = i + 1 }
 at_element _ spot i = spot
 
 -- where the parameters of an object stand: those of an instance under its transform
 abbrev pub at_parameters_of : Kind → SceneObject → Spot → Spot
-at_parameters_of InstanceTransform o spot = record {
-  inst = spot.inst;
-  surf = spot.surf;
-  transform = matrix_in (value_at o (codes "transform"));
-  instance_id = id_in (value_at o (codes "id"));
-}
+at_parameters_of InstanceTransform o spot =
+    record spot { transform = matrix_in (value_at o (codes "transform")); instance_id = id_in (value_at o (codes "id")) }
 at_parameters_of _ o spot = spot
 
 -- the objects that an object's parameters name, in the order of its rows

@@ -1,5 +1,6 @@
 -- Worked histories, computed.
-use Rattle.std.proofs.Common.{ℕ, ◌≤◌, [], ◌∷◌, ◌≡◌, inl, refl, arith}
+use Rattle.seq_model.specs.declared.calls.Call.TheVariants.{MapArray, Retain}
+use Rattle.std.proofs.Common.{true, false, ℕ, ◌≤◌, [], ◌∷◌, ◌≡◌, inl, refl, arith}
 use Rattle.std.proofs.lemmas.List.Elements.{All-nil, All-cons}
 use Rattle.dev_types.specs.declared.notices.Notice.TheVariants.{Deleted, Told}
 use Rattle.dev_types.specs.declared.refusals.Severity.TheVariants.{Error}
@@ -19,20 +20,21 @@ use Rattle.kind_tables.specs.Scenes.{lights_of, primitives_of, scene, scene_by}
 use Rattle.kind_tables.specs.Shapes.{shapes_of}
 use Rattle.kind_tables.specs.WalkRefusals.{fault_of, first_incomplete, first_limit, first_mapped, first_out_of_range, walk_refusal}
 use Rattle.kind_tables.specs.Walks.{below, walk, walk_from}
-use Rattle.seq_model.specs.Answers.{IsAnswer, bounds_of}
+use Rattle.seq_model.specs.Answers.{IsAnswer, answer, bounds_of}
 use Rattle.seq_model.specs.Builds.{builds}
 use Rattle.seq_model.specs.Histories.{frame_at, mine, public}
 use Rattle.seq_model.specs.Legal.{GoesOn, Legal}
 use Rattle.seq_model.specs.Life.{grown, is_root, live, named}
 use Rattle.seq_model.specs.Pictures.{has_channel, picture_at, scene_at, state_before, tiles_at}
 use Rattle.seq_model.specs.Refusals.{refusal, refusals_of}
+use Rattle.seq_model.specs.Room.{is_full}
 use Rattle.seq_model.specs.Steps.{after, change, discard, effect, end_flight, end_flights, is_reached, is_reached_by, step, swept, take_in, unmap_parameter, with_reach}
 use Rattle.seq_model.specs.Told.{told, told_by, told_from}
-use Rattle.seq_model.specs.Examples.{surface_bytes, triangle_bytes, all_but_the_world, commit_during_a_flight, discarded, ended_after_release, last_holder, parameter_array_dies, released_in_flight, released_twice, render_while_mapped, set_is_not_commit, triangle_history, triangle_made}
+use Rattle.seq_model.specs.Examples.{surface_bytes, triangle_bytes, all_but_the_world, commit_during_a_flight, discarded, ended_after_release, last_holder, parameter_array_dies, released_in_flight, released_twice, render_while_mapped, set_is_not_commit, three_made, triangle_history, triangle_made}
 
 -- all of them are legal
 pub rows_are_legal : Legal triangle_history × Legal last_holder × Legal ended_after_release × Legal set_is_not_commit × Legal commit_during_a_flight × Legal render_while_mapped × Legal released_twice × Legal discarded × Legal parameter_array_dies
-unfolding GoesOn IsAnswer Legal across add after all_but_the_world axes_of axis_length below blend_hit blended bounds_of broken_parameter builds camera_ray change color_of column commit_during_a_flight cosine cross crossing crossing_depth discard discarded distance_at dot effect end_flight end_flights ended_after_release facing faded fault_of finish_blend first_from first_incomplete first_limit first_mapped first_out_of_range frame_at from_centre grown halvings halvings_within has_channel hit_after hits in_window incoming irradiance_at is_crossed is_in_ball is_lower is_nearer is_reached is_reached_by is_root is_same_place is_settled isqrt last_holder lights_of linear live long_length mine named nearest neg normal_of normalized offset parameter_array_dies part picture picture_at pixel pixels_in placed point_at primitives_of public radiance reach refusal refusals_of released_in_flight released_twice render_while_mapped root_at root_or_next row scaled_down scaled_radius scene scene_at scene_by set_is_not_commit shade shapes_of share_of shortened shown sphere_depth state_before step sub swept take_in tile_rect tiles_at times to_byte told told_by told_from towards triangle_history triangle_made truncated turned unblended unit unmap_parameter walk walk_from walk_refusal weight with_reach
+unfolding GoesOn IsAnswer answer Legal across add after all_but_the_world axes_of axis_length below blend_hit blended bounds_of broken_parameter builds camera_ray change color_of column commit_during_a_flight cosine cross crossing crossing_depth discard discarded distance_at dot effect end_flight end_flights ended_after_release facing faded fault_of finish_blend first_from first_incomplete first_limit first_mapped first_out_of_range frame_at from_centre grown halvings halvings_within has_channel hit_after hits in_window incoming irradiance_at is_crossed is_in_ball is_lower is_nearer is_reached is_reached_by is_root is_same_place is_settled isqrt last_holder lights_of linear live long_length mine named nearest neg normal_of normalized offset parameter_array_dies part picture picture_at pixel pixels_in placed point_at primitives_of public radiance reach refusal refusals_of released_in_flight released_twice render_while_mapped root_at root_or_next row scaled_down scaled_radius scene scene_at scene_by set_is_not_commit shade shapes_of share_of shortened shown sphere_depth state_before step sub swept take_in tile_rect tiles_at times to_byte told told_by told_from towards triangle_history triangle_made truncated turned unblended unit unmap_parameter walk walk_from walk_refusal weight with_reach
 rows_are_legal = (
   (
     record { placed = (refl, refl); rising = tt },
@@ -878,10 +880,15 @@ pub rows_tell :
     (told released_in_flight ≡ []) ×
     (told ended_after_release ≡ Deleted 1 7 triangle_bytes ∷ Deleted 5 8 surface_bytes ∷ []) ×
     (told parameter_array_dies ≡ Told (record { severity = Error; code = InvalidArgument; source = 1; refusal = 2 }) ∷ [])
-unfolding GoesOn IsAnswer Legal across add after all_but_the_world axes_of axis_length below blend_hit blended bounds_of broken_parameter builds camera_ray change color_of column commit_during_a_flight cosine cross crossing crossing_depth discard discarded distance_at dot effect end_flight end_flights ended_after_release facing faded fault_of finish_blend first_from first_incomplete first_limit first_mapped first_out_of_range frame_at from_centre grown halvings halvings_within has_channel hit_after hits in_window incoming irradiance_at is_crossed is_in_ball is_lower is_nearer is_reached is_reached_by is_root is_same_place is_settled isqrt last_holder lights_of linear live long_length mine named nearest neg normal_of normalized offset parameter_array_dies part picture picture_at pixel pixels_in placed point_at primitives_of public radiance reach refusal refusals_of released_in_flight released_twice render_while_mapped root_at root_or_next row scaled_down scaled_radius scene scene_at scene_by set_is_not_commit shade shapes_of share_of shortened shown sphere_depth state_before step sub swept take_in tile_rect tiles_at times to_byte told told_by told_from towards triangle_history triangle_made truncated turned unblended unit unmap_parameter walk walk_from walk_refusal weight with_reach
+unfolding GoesOn IsAnswer answer Legal across add after all_but_the_world axes_of axis_length below blend_hit blended bounds_of broken_parameter builds camera_ray change color_of column commit_during_a_flight cosine cross crossing crossing_depth discard discarded distance_at dot effect end_flight end_flights ended_after_release facing faded fault_of finish_blend first_from first_incomplete first_limit first_mapped first_out_of_range frame_at from_centre grown halvings halvings_within has_channel hit_after hits in_window incoming irradiance_at is_crossed is_in_ball is_lower is_nearer is_reached is_reached_by is_root is_same_place is_settled isqrt last_holder lights_of linear live long_length mine named nearest neg normal_of normalized offset parameter_array_dies part picture picture_at pixel pixels_in placed point_at primitives_of public radiance reach refusal refusals_of released_in_flight released_twice render_while_mapped root_at root_or_next row scaled_down scaled_radius scene scene_at scene_by set_is_not_commit shade shapes_of share_of shortened shown sphere_depth state_before step sub swept take_in tile_rect tiles_at times to_byte told told_by told_from towards triangle_history triangle_made truncated turned unblended unit unmap_parameter walk walk_from walk_refusal weight with_reach
 rows_tell = (refl, refl, refl, refl, refl, refl)
 
 -- how many worlds each of them prepares
 pub rows_build : (builds triangle_history ≡ 1) × (builds set_is_not_commit ≡ 2) × (builds commit_during_a_flight ≡ 1)
-unfolding GoesOn IsAnswer Legal across add after all_but_the_world axes_of axis_length below blend_hit blended bounds_of broken_parameter builds camera_ray change color_of column commit_during_a_flight cosine cross crossing crossing_depth discard discarded distance_at dot effect end_flight end_flights ended_after_release facing faded fault_of finish_blend first_from first_incomplete first_limit first_mapped first_out_of_range frame_at from_centre grown halvings halvings_within has_channel hit_after hits in_window incoming irradiance_at is_crossed is_in_ball is_lower is_nearer is_reached is_reached_by is_root is_same_place is_settled isqrt last_holder lights_of linear live long_length mine named nearest neg normal_of normalized offset parameter_array_dies part picture picture_at pixel pixels_in placed point_at primitives_of public radiance reach refusal refusals_of released_in_flight released_twice render_while_mapped root_at root_or_next row scaled_down scaled_radius scene scene_at scene_by set_is_not_commit shade shapes_of share_of shortened shown sphere_depth state_before step sub swept take_in tile_rect tiles_at times to_byte told told_by told_from towards triangle_history triangle_made truncated turned unblended unit unmap_parameter walk walk_from walk_refusal weight with_reach
+unfolding GoesOn IsAnswer answer Legal across add after all_but_the_world axes_of axis_length below blend_hit blended bounds_of broken_parameter builds camera_ray change color_of column commit_during_a_flight cosine cross crossing crossing_depth discard discarded distance_at dot effect end_flight end_flights ended_after_release facing faded fault_of finish_blend first_from first_incomplete first_limit first_mapped first_out_of_range frame_at from_centre grown halvings halvings_within has_channel hit_after hits in_window incoming irradiance_at is_crossed is_in_ball is_lower is_nearer is_reached is_reached_by is_root is_same_place is_settled isqrt last_holder lights_of linear live long_length mine named nearest neg normal_of normalized offset parameter_array_dies part picture picture_at pixel pixels_in placed point_at primitives_of public radiance reach refusal refusals_of released_in_flight released_twice render_while_mapped root_at root_or_next row scaled_down scaled_radius scene scene_at scene_by set_is_not_commit shade shapes_of share_of shortened shown sphere_depth state_before step sub swept take_in tile_rect tiles_at times to_byte told told_by told_from towards triangle_history triangle_made truncated turned unblended unit unmap_parameter walk walk_from walk_refusal weight with_reach
 rows_build = (refl, refl, refl)
+
+-- a journal of four entries has room for three creations and the close
+pub rows_fill : (is_full 4 (after three_made) (Retain 1) ≡ true) × (is_full 5 (after three_made) (Retain 1) ≡ false) × (is_full 5 (after three_made) (MapArray 1) ≡ true)
+unfolding is_full three_made GoesOn IsAnswer answer Legal across add after all_but_the_world axes_of axis_length below blend_hit blended bounds_of broken_parameter builds camera_ray change color_of column commit_during_a_flight cosine cross crossing crossing_depth discard discarded distance_at dot effect end_flight end_flights ended_after_release facing faded fault_of finish_blend first_from first_incomplete first_limit first_mapped first_out_of_range frame_at from_centre grown halvings halvings_within has_channel hit_after hits in_window incoming irradiance_at is_crossed is_in_ball is_lower is_nearer is_reached is_reached_by is_root is_same_place is_settled isqrt last_holder lights_of linear live long_length mine named nearest neg normal_of normalized offset parameter_array_dies part picture picture_at pixel pixels_in placed point_at primitives_of public radiance reach refusal refusals_of released_in_flight released_twice render_while_mapped root_at root_or_next row scaled_down scaled_radius scene scene_at scene_by set_is_not_commit shade shapes_of share_of shortened shown sphere_depth state_before step sub swept take_in tile_rect tiles_at times to_byte told told_by told_from towards triangle_history triangle_made truncated turned unblended unit unmap_parameter walk walk_from walk_refusal weight with_reach
+rows_fill = (refl, refl, refl)

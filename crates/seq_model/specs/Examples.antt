@@ -183,3 +183,7 @@ parameter_array_dies =
     release 1 ∷
     Called 0 (UnmapParameterArray 1 (codes "vertex.position") 2 triangle_bytes) (reply.Made 2) ∷
     denied (Commit 1) (BadHandle 1) ∷ []
+
+-- three objects are made
+unfoldable pub three_made : History
+three_made = new ty.World (codes "default") 1 ∷ new ty.World (codes "default") 2 ∷ new ty.World (codes "default") 3 ∷ []

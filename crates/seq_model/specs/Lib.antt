@@ -6,6 +6,7 @@ pub mod Legal
 pub mod Life
 pub mod Pictures
 pub mod Refusals
+pub mod Room
 pub mod State
 pub mod Steps
 pub mod Told

@@ -51,7 +51,7 @@ grown is_root objects (suc n) = roots_and_named is_root objects (grown is_root o
 unfoldable pub live : (ℕ × Object → Bool) → List (ℕ × Object) → List (ℕ × Object)
 live is_root objects = grown is_root objects 10
 
--- how many places hold h in a state: entries and elements, its loans, and the flights that reached it
+-- how many places beside public references hold h in a state: entries and elements, its loans, and the flights that reached it
 unfoldable pub named : (ℕ → ℕ → Bool) → State → ℕ → ℕ
 named is_reached_by s h =
     sum_by (λ entry. times h (names_of entry.1)) s.objects

@@ -2,7 +2,7 @@
 use Rattle.std.specs.Prelude.{ℕ, zero, suc, ◌*◌, ◌==◌, ◌^◌, ◌&&◌, ◌||◌, not, nat_lt, Bool, true, false, List, [], ◌∷◌, ◌++◌, Option, Some, None, codes, length, map, if◌then◌else◌}
 use Rattle.std.specs.Bool.{then_some}
 use Rattle.std.specs.List.{list_any}
-use Rattle.std.specs.Option.{is_none, is_some, option_and_then, option_map, option_map_or}
+use Rattle.std.specs.Option.{is_none, is_some, option_and_then, option_map_or}
 use Rattle.std.specs.Str.{bytes_eq}
 use Rattle.dev_types.specs.Blocks.{needed_length}
 use Rattle.dev_types.specs.DataTypes.{byte_size, is_element_type, is_object_type, type_number}
@@ -36,7 +36,7 @@ use Rattle.seq_model.specs.declared.calls.Call.TheVariants.{NewObject, NewArray,
 abbrev pub first_of : List (Option Refused) → Option Refused
 first_of refusals = first_answer (λ refused. refused) refusals
 
--- the same type, the same kind
+-- the same data type
 abbrev pub is_same_type : DataType → DataType → Bool
 is_same_type t u = type_number t == type_number u
 

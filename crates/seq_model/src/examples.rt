@@ -1,12 +1,16 @@
 //! Worked histories, computed: each is the contract of a function that does nothing.
-ghost use Rattle.std.specs.Prelude.{◌≡◌, [], ◌∷◌};
+ghost use Rattle.std.specs.Prelude.{◌≡◌, [], ◌∷◌, true, false};
 ghost use Rattle.dev_types.specs.declared.notices.Notice.TheVariants.{Deleted, Told};
 ghost use Rattle.dev_types.specs.declared.refusals.Code.TheVariants.{InvalidArgument};
 ghost use Rattle.dev_types.specs.declared.refusals.Severity.TheVariants.{Error};
 ghost use Rattle.seq_model.specs.Builds.{builds};
-ghost use Rattle.seq_model.specs.Examples.{all_but_the_world, commit_during_a_flight, discarded, ended_after_release, last_holder, parameter_array_dies, released_in_flight, released_twice, render_while_mapped, set_is_not_commit, surface_bytes, triangle_bytes, triangle_history};
+ghost use Rattle.seq_model.specs.Examples.{all_but_the_world, commit_during_a_flight, discarded, ended_after_release, last_holder, parameter_array_dies, released_in_flight, released_twice, render_while_mapped, set_is_not_commit, surface_bytes, three_made, triangle_bytes, triangle_history};
 ghost use Rattle.seq_model.specs.Legal.{Legal};
+ghost use Rattle.seq_model.specs.Room.{is_full};
+ghost use Rattle.seq_model.specs.Steps.{after};
 ghost use Rattle.seq_model.specs.Told.{told};
+
+use crate::calls::Call;
 
 /// The worked histories are legal, with the pictures that they show.
 #[tactic(auto, using(crate::proofs::Rows::rows_are_legal))]
@@ -32,4 +36,12 @@ pub fn rows_tell()
 #[tactic(auto, using(crate::proofs::Rows::rows_build))]
 pub fn rows_build()
     ensures { (builds triangle_history ≡ 1) × (builds set_is_not_commit ≡ 2) × (builds commit_during_a_flight ≡ 1) }
+{}
+
+/// A journal keeps a place for what each call will owe, and for the close.
+#[tactic(auto, using(crate::proofs::Rows::rows_fill))]
+pub fn rows_fill()
+    ensures { (is_full 4 (after three_made) (Call.Retain 1) ≡ true)
+        × (is_full 5 (after three_made) (Call.Retain 1) ≡ false)
+        × (is_full 5 (after three_made) (Call.MapArray 1) ≡ true) }
 {}
