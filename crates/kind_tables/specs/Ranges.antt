@@ -1,6 +1,7 @@
 -- Which values of which parameters are in range, and in which order they are asked within one visit (ANARI 1.0 Specification, the tables
 -- of parameters). A value is the committed one, or the default.
 use Rattle.std.specs.Prelude.{ℕ, ℤ, pos, Bool, true, not, ◌&&◌, ◌==◌, ◌^◌, ◌++◌, nat_le, nat_lt, int_le, List, [], ◌∷◌, Option, Some, None, codes, length, map, take}
+use Rattle.std.specs.Int.{is_in_range}
 use Rattle.std.specs.List.{find, flat_map, list_all}
 use Rattle.std.specs.Option.{option_map}
 use Rattle.dev_types.specs.Words.{name_of_channel}
@@ -10,12 +11,12 @@ use Rattle.dev_types.specs.declared.handles.Channel.{Channel}
 use Rattle.dev_types.specs.declared.handles.Channel.TheVariants.{Color, PrimitiveId, ObjectId, InstanceId}
 use Rattle.dev_types.specs.declared.values.Value.{Value}
 use Rattle.dev_types.specs.declared.values.Value.TheVariants.{TypeName}
-use Rattle.dev_types.specs.DataTypes.{type_number}
 use Rattle.fx_math.specs.Mat34.{placed, scaled_radius}
 use Rattle.fx_math.specs.UnitVector.{unit}
 use Rattle.fx_math.specs.Vec3.{cross, reach}
 use Rattle.fx_math.specs.declared.transforms.Mat34.{Mat34}
 use Rattle.fx_math.specs.declared.vectors.Vec3.{Vec3}
+use Rattle.kind_tables.specs.Kinds.{is_same_type}
 use Rattle.kind_tables.specs.SceneObjects.{SceneObject, SceneObjects, scalar_of, scalars_of, sizes_in, value_at, vector_of}
 use Rattle.kind_tables.specs.Shapes.{common_radius, corners_of, own_radii, positions_of, vertex}
 use Rattle.kind_tables.specs.Walks.{Visit}
@@ -48,7 +49,7 @@ is_radius m r = is_amount r && int_le (scaled_radius m r) (pos (2 ^ 28))
 
 -- a side of a frame
 abbrev pub is_side : ℕ → Bool
-is_side n = nat_le 1 n && nat_le n 4096
+is_side n = is_in_range 1 4096 n
 
 -- the type of a channel's pixels
 abbrev pub type_of_channel : Channel → DataType
@@ -57,7 +58,7 @@ type_of_channel _ = ty.Uint32
 
 -- a channel that is not asked for, or with this type
 abbrev pub is_asked_as : DataType → Option Value → Bool
-is_asked_as t (Some (TypeName asked)) = type_number asked == type_number t
+is_asked_as t (Some (TypeName asked)) = is_same_type asked t
 is_asked_as t _ = true
 
 -- a parameter's name, and whether its value is in range

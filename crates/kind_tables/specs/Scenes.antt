@@ -2,7 +2,7 @@
 -- Surface, Light, Camera, Renderer).
 use Rattle.std.specs.Prelude.{ℕ, false, List, [], Option, Some, None, codes, map, slice_index_or}
 use Rattle.std.specs.List.{enumerate_from, filter_map, flat_map}
-use Rattle.std.specs.Option.{option_map, unwrap_or}
+use Rattle.std.specs.Option.{option_map_or, unwrap_or}
 use Rattle.fx_math.specs.Mat34.{linear, placed}
 use Rattle.fx_math.specs.declared.scene.CameraRow.{CameraRow}
 use Rattle.fx_math.specs.declared.scene.CameraRow.TheVariants.{Orthographic, Perspective}
@@ -32,12 +32,12 @@ primitive spot surface material shape = record {
 -- the shapes of a surface's geometry at a spot, numbered from 0
 abbrev pub surface_shapes : SceneObjects → Spot → SceneObject → List (ℕ × Shape)
 surface_shapes objects spot surface =
-    enumerate_from 0 (unwrap_or (option_map (λ geometry. shapes_of objects geometry spot.transform) (object_named objects surface (codes "geometry"))) [])
+    enumerate_from 0 (option_map_or (λ geometry. shapes_of objects geometry spot.transform) (object_named objects surface (codes "geometry")) [])
 
 -- what a surface shows; without a material it shows nothing
 abbrev pub surface_primitives : SceneObjects → Spot → SceneObject → List Primitive
 surface_primitives objects spot surface =
-    unwrap_or (option_map (λ material. map (primitive spot surface material) (surface_shapes objects spot surface)) (object_named objects surface (codes "material"))) []
+    option_map_or (λ material. map (primitive spot surface material) (surface_shapes objects spot surface)) (object_named objects surface (codes "material")) []
 
 -- the primitives of a visit of an object of a kind: only surfaces have any
 abbrev pub primitives_by : Kind → SceneObjects → Visit → List Primitive

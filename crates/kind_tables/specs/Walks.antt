@@ -2,7 +2,7 @@
 -- object is visited before what it names, and what it names in the order of its parameters and its elements.
 use Rattle.std.specs.Prelude.{ℕ, zero, suc, ◌+◌, List, [], ◌∷◌, ◌++◌, codes, map}
 use Rattle.std.specs.List.{filter_map, flat_map}
-use Rattle.std.specs.Option.{option_and_then, option_map, unwrap_or}
+use Rattle.std.specs.Option.{option_and_then, option_map_or}
 use Rattle.dev_types.specs.declared.data_types.DataType.TheVariants as ty
 use Rattle.fx_math.specs.Ids.{no_id}
 use Rattle.fx_math.specs.declared.transforms.Mat34.{Mat34}
@@ -46,7 +46,7 @@ named_parameters o = filter_map (λ row. option_and_then object_in (value_named 
 
 -- the objects that an object's elements name, each with its index
 abbrev pub named_elements : SceneObject → List (ℕ × ℕ)
-named_elements o = unwrap_or (option_map objects_in o.block) []
+named_elements o = option_map_or objects_in o.block []
 
 -- what an object names, each with the place where it stands
 unfoldable pub below : Spot → SceneObject → List (Spot × ℕ)
@@ -62,7 +62,7 @@ visit start o = record { handle = start.1; object = o; spot = start.0 }
 unfoldable pub walk_from : ℕ → SceneObjects → Spot × ℕ → List Visit
 walk_from zero objects start = []
 walk_from (suc depth) objects start =
-    unwrap_or (option_map (λ o. visit start o ∷ flat_map (walk_from depth objects) (below start.0 o)) (object_at objects start.1)) []
+    option_map_or (λ o. visit start o ∷ flat_map (walk_from depth objects) (below start.0 o)) (object_at objects start.1) []
 
 -- the walk from an object; no chain of names is longer than the ten ranks
 unfoldable pub walk : SceneObjects → ℕ → List Visit

@@ -1,18 +1,18 @@
 -- A worked history: a triangle is made, rendered, mapped, and the device closed.
-use Rattle.std.specs.Prelude.{ℕ, ℤ, pos, negsuc, List, [], ◌∷◌, ◌++◌, codes, true, false}
+use Rattle.std.specs.Prelude.{ℕ, ℤ, pos, negsuc, List, [], ◌∷◌, ◌++◌, Option, Some, None, codes, true, false}
 use Rattle.std.specs.List.{flat_map}
 use Rattle.dev_types.specs.ValueBytes.{bytes_of}
 use Rattle.dev_types.specs.declared.data_types.DataType.{DataType}
 use Rattle.dev_types.specs.declared.data_types.DataType.TheVariants as ty
 use Rattle.dev_types.specs.declared.handles.Channel.TheVariants.{Color}
-use Rattle.dev_types.specs.declared.handles.Origin.TheVariants.{Captured}
+use Rattle.dev_types.specs.declared.handles.Origin.TheVariants.{Captured, Managed}
 use Rattle.dev_types.specs.declared.refusals.Refused.{Refused}
-use Rattle.dev_types.specs.declared.refusals.Refused.TheVariants.{ArrayMapped, BadHandle, InFlight, NoPicture, NotHeld}
+use Rattle.dev_types.specs.declared.refusals.Refused.TheVariants.{ArrayMapped, BadHandle, BadShape, BadSubtype, BadType, InFlight, NoPicture, NoSuchName, NotHeld, NotMapped, UnknownObjectParameter, WrongKind}
 use Rattle.dev_types.specs.declared.values.Value.{Value}
-use Rattle.dev_types.specs.declared.values.Value.TheVariants.{Object, Scalar, ScalarVec3, TypeName, Uint32Vec2}
+use Rattle.dev_types.specs.declared.values.Value.TheVariants.{Object, Scalar, Uint32, ScalarVec3, TypeName, Uint32Vec2}
 use Rattle.seq_model.specs.Histories.{History}
 use Rattle.seq_model.specs.declared.calls.Call.{Call}
-use Rattle.seq_model.specs.declared.calls.Call.TheVariants.{NewObject, NewArray, Retain, Release, SetParameter, UnsetAll, Commit, MapArray, UnmapArray, MapParameterArray, UnmapParameterArray, RenderFrame, FrameReady, DiscardFrame, MapFrame, UnmapFrame}
+use Rattle.seq_model.specs.declared.calls.Call.TheVariants.{NewObject, NewArray, Retain, Release, SetParameter, UnsetAll, Commit, MapArray, UnmapArray, MapParameterArray, UnmapParameterArray, RenderFrame, FrameReady, DiscardFrame, MapFrame, UnmapFrame, GetProperty, Subtypes, ObjectInfo, ParameterInfo}
 use Rattle.seq_model.specs.declared.calls.Entry.{Entry}
 use Rattle.seq_model.specs.declared.calls.Entry.TheVariants.{Called, Finished, Left, Closed}
 use Rattle.seq_model.specs.declared.calls.Reply.TheVariants as reply
@@ -187,3 +187,44 @@ parameter_array_dies =
 -- three objects are made
 unfoldable pub three_made : History
 three_made = new ty.World (codes "default") 1 ∷ new ty.World (codes "default") 2 ∷ new ty.World (codes "default") 3 ∷ []
+
+-- calls after the triangle was made, each with its refusal, if one applies
+unfoldable pub asked_then : List (Call × Option Refused)
+asked_then =
+    (NewObject ty.Camera (codes "omnidirectional"), Some BadSubtype) ∷
+    (SetParameter 7 (codes "height") (Uint32 3), Some BadType) ∷
+    (SetParameter 6 (codes "volume") (Object ty.Array1D 5), Some UnknownObjectParameter) ∷
+    (NewArray ty.ScalarVec3 1 11 Managed [], Some BadShape) ∷
+    (RenderFrame 7, Some (WrongKind 7)) ∷
+    (SetParameter 4 (codes "geometry") (Object ty.Geometry 3), Some (WrongKind 3)) ∷
+    (SetParameter 4 (codes "geometry") (Object ty.Geometry 0), Some (BadHandle 0)) ∷
+    (SetParameter 2 (codes "vertex.position") (Object ty.Array1D 5), Some BadType) ∷
+    (SetParameter 2 (codes "vertex.position") (Object ty.Scalar 5), Some BadType) ∷
+    (SetParameter 2 (codes "foo") (Object ty.Scalar 5), Some BadType) ∷
+    (SetParameter 2 (codes "foo") (Object ty.Array1D 5), Some UnknownObjectParameter) ∷
+    (SetParameter 2 (codes "foo") (Uint32 5), None) ∷
+    (SetParameter 1 (codes "foo") (Uint32 5), None) ∷
+    (MapFrame 9 Color, Some NoPicture) ∷
+    (FrameReady 9 true, Some NoPicture) ∷
+    (DiscardFrame 9, None) ∷
+    (GetProperty 6 (codes "foo"), Some NoSuchName) ∷
+    (GetProperty 0 (codes "version"), None) ∷
+    (GetProperty 0 (codes "bounds"), Some NoSuchName) ∷
+    (GetProperty 10 (codes "version"), Some (BadHandle 10)) ∷
+    (GetProperty 9 (codes "renderProgress"), None) ∷
+    (Subtypes ty.Array1D, Some NoSuchName) ∷
+    (Subtypes ty.Uint32, Some NoSuchName) ∷
+    (ObjectInfo ty.Array1D (codes "default"), Some BadSubtype) ∷
+    (ParameterInfo ty.Camera (codes "orthographic") (codes "tanHalfFovy"), Some NoSuchName) ∷
+    (MapParameterArray 4 (codes "geometry") ty.Scalar 1, Some BadType) ∷
+    (MapParameterArray 7 (codes "foo") ty.Scalar 1, Some UnknownObjectParameter) ∷
+    (MapParameterArray 7 (codes "foo") ty.Str 1, Some BadType) ∷
+    (MapParameterArray 2 (codes "vertex.position") ty.ScalarVec3 33554432, Some BadShape) ∷
+    (UnmapArray 1 5 [], Some NotMapped) ∷
+    (UnmapFrame 9 3, Some NotMapped) ∷
+    (MapArray 2, Some (WrongKind 2)) ∷
+    (NewArray ty.Array1D 1 8 Managed [], Some BadType) ∷
+    (NewArray ty.Surface 2 8 (Captured 1) (bytes_of (Object ty.Surface 3) ++ bytes_of (Object ty.Surface 77)), Some (BadHandle 77)) ∷
+    (NewArray ty.Surface 2 8 (Captured 1) (bytes_of (Object ty.Surface 0) ++ bytes_of (Object ty.Surface 3)), Some (WrongKind 3)) ∷
+    (NewArray ty.Surface 0 8 (Captured 1) (bytes_of (Object ty.Surface 77)), None) ∷
+    (NewArray ty.Surface 2 8 Managed [], None) ∷ []

@@ -5,8 +5,8 @@ use Rattle.std.specs.List.{list_any}
 use Rattle.std.specs.Option.{is_none, is_some, option_and_then, option_map_or}
 use Rattle.std.specs.Str.{bytes_eq}
 use Rattle.dev_types.specs.Blocks.{needed_length}
-use Rattle.dev_types.specs.DataTypes.{byte_size, is_element_type, is_object_type, type_number}
-use Rattle.dev_types.specs.ValueBytes.{type_of}
+use Rattle.dev_types.specs.DataTypes.{byte_size, is_element_type, is_object_type}
+use Rattle.dev_types.specs.ValueBytes.{is_well_typed, type_of}
 use Rattle.dev_types.specs.Words.{name_of_channel}
 use Rattle.dev_types.specs.declared.data_types.DataType.{DataType}
 use Rattle.dev_types.specs.declared.data_types.DataType.TheVariants as ty
@@ -17,7 +17,7 @@ use Rattle.dev_types.specs.declared.refusals.Refused.{Refused}
 use Rattle.dev_types.specs.declared.refusals.Refused.TheVariants.{BadHandle, NotHeld, WrongKind, BadSubtype, BadType, UnknownObjectParameter, BadShape, ArrayMapped, NotMapped, InFlight, NoPicture, ChannelMapped, NoChannel, NoSuchName}
 use Rattle.dev_types.specs.declared.values.Value.{Value}
 use Rattle.dev_types.specs.declared.values.Value.TheVariants as value
-use Rattle.kind_tables.specs.Kinds.{kind_of, subtypes_of, type_of_kind}
+use Rattle.kind_tables.specs.Kinds.{is_same_type, kind_of, subtypes_of, type_of_kind}
 use Rattle.kind_tables.specs.Rows.{row_of}
 use Rattle.kind_tables.specs.SceneObjects.{objects_in}
 use Rattle.kind_tables.specs.WalkRefusals.{fault_of, first_answer, first_mapped, walk_refusal}
@@ -35,10 +35,6 @@ use Rattle.seq_model.specs.declared.calls.Call.TheVariants.{NewObject, NewArray,
 -- the first of some refusals that applies
 abbrev pub first_of : List (Option Refused) → Option Refused
 first_of refusals = first_answer (λ refused. refused) refusals
-
--- the same data type
-abbrev pub is_same_type : DataType → DataType → Bool
-is_same_type t u = type_number t == type_number u
 
 -- what the objects of a past are asked: whether one is there, is held by the application, and has a type
 abbrev pub dead : Past → ℕ → Option Refused
@@ -99,11 +95,6 @@ abbrev pub object_of_value : Value → Option ℕ
 object_of_value (value.Object _ h) = Some h
 object_of_value _ = None
 
--- the value is an object of a type that is no object type
-abbrev pub is_ill_typed : Value → Bool
-is_ill_typed (value.Object t _) = not (is_object_type t)
-is_ill_typed _ = false
-
 -- the value is an object of another type than it says
 abbrev pub wrong_value : Past → Value → Option Refused
 wrong_value past (value.Object t h) = if is_object_type t then wrong_kind past h t else None
@@ -131,7 +122,7 @@ refusals_of_set past h name v =
     not_held past h ∷
     option_and_then (not_held past) (object_of_value v) ∷
     wrong_value past v ∷
-    then_some (is_ill_typed v || option_map_or (λ row. not (permits past row v)) (row_at past h name) false) BadType ∷
+    then_some (not (is_well_typed v) || option_map_or (λ row. not (permits past row v)) (row_at past h name) false) BadType ∷
     then_some (is_none (row_at past h name) && is_some (object_of_value v)) UnknownObjectParameter ∷ []
 
 -- the array is mapped

@@ -1,11 +1,12 @@
 //! Worked histories, computed: each is the contract of a function that does nothing.
-ghost use Rattle.std.specs.Prelude.{◌≡◌, [], ◌∷◌, true, false};
+ghost use Rattle.std.specs.Prelude.{◌≡◌, [], ◌∷◌, map, true, false};
 ghost use Rattle.dev_types.specs.declared.notices.Notice.TheVariants.{Deleted, Told};
 ghost use Rattle.dev_types.specs.declared.refusals.Code.TheVariants.{InvalidArgument};
 ghost use Rattle.dev_types.specs.declared.refusals.Severity.TheVariants.{Error};
 ghost use Rattle.seq_model.specs.Builds.{builds};
-ghost use Rattle.seq_model.specs.Examples.{all_but_the_world, commit_during_a_flight, discarded, ended_after_release, last_holder, parameter_array_dies, released_in_flight, released_twice, render_while_mapped, set_is_not_commit, surface_bytes, three_made, triangle_bytes, triangle_history};
+ghost use Rattle.seq_model.specs.Examples.{asked_then, all_but_the_world, commit_during_a_flight, discarded, ended_after_release, last_holder, parameter_array_dies, released_in_flight, released_twice, render_while_mapped, set_is_not_commit, surface_bytes, three_made, triangle_bytes, triangle_history, triangle_made};
 ghost use Rattle.seq_model.specs.Legal.{Legal};
+ghost use Rattle.seq_model.specs.Refusals.{refusal};
 ghost use Rattle.seq_model.specs.Room.{is_full};
 ghost use Rattle.seq_model.specs.Steps.{after};
 ghost use Rattle.seq_model.specs.Told.{told};
@@ -13,7 +14,7 @@ ghost use Rattle.seq_model.specs.Told.{told};
 use crate::calls::Call;
 
 /// The worked histories are legal, with the pictures that they show.
-#[tactic(auto, using(crate::proofs::Rows::rows_are_legal))]
+#[tactic(auto, using(crate::proofs::LegalRows::rows_are_legal))]
 pub fn rows_are_legal()
     ensures { Legal triangle_history × Legal last_holder × Legal ended_after_release × Legal set_is_not_commit
         × Legal commit_during_a_flight × Legal render_while_mapped × Legal released_twice × Legal discarded
@@ -44,4 +45,10 @@ pub fn rows_fill()
     ensures { (is_full 4 (after three_made) (Call.Retain 1) ≡ true)
         × (is_full 5 (after three_made) (Call.Retain 1) ≡ false)
         × (is_full 5 (after three_made) (Call.MapArray 1) ≡ true) }
+{}
+
+/// After the triangle was made these calls are refused as the table says, and the others are not.
+#[tactic(auto, using(crate::proofs::Rows::rows_refuse))]
+pub fn rows_refuse()
+    ensures { map (λ row. refusal (after triangle_made) row.0) asked_then ≡ map (λ row. row.1) asked_then }
 {}
