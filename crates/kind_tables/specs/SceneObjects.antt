@@ -68,7 +68,7 @@ scalar_in _ = pos 0
 
 abbrev pub scalars_in : Option Value → List ℤ
 scalars_in (Some (ScalarVec3 zs)) = zs
-scalars_in _ = []
+scalars_in _ = pos 0 ∷ pos 0 ∷ pos 0 ∷ []
 
 abbrev pub matrix_in : Option Value → Mat34
 matrix_in (Some (ScalarMat34 zs)) = record { c = zs }
