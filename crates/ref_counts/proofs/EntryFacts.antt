@@ -1,19 +1,18 @@
 -- How a read and a write of one entry show in the map.
-use Rattle.std.proofs.Common.{◌≡◌, ◌≢◌, ℕ, zero, suc, ◌+◌, ◌<◌, ◌≤◌, Bool, true, false, true≢false, List, [], ◌∷◌, length, map, Some, None, IsSome, cond, refl, sym, ap, subst, ◌∙◌, inl, inr, ◌⊎◌, arith, option_map, is_some}
+use Rattle.std.proofs.Common.{◌≡◌, ◌≢◌, ℕ, true≢false, List, [], ◌∷◌, Some, None, IsSome, cond, refl, sym, ap, subst, ◌∙◌, inl, inr, option_map, is_some}
 use Rattle.std.proofs.lemmas.Bool.{cases_eq}
 use Rattle.std.proofs.lemmas.Map.Made.{lookup-map_values}
-use Rattle.std.proofs.lemmas.Map.Steps.{set_value_same}
 use Rattle.std.proofs.lemmas.Option.{none-some}
 use Rattle.std.specs.BTreeMap.{is_at, insert_entry}
 use Rattle.std.specs.Map.{lookup, set_value}
 use Rattle.std.specs.Option.{unwrap_or}
-use Rattle.std.specs.Ordering.{nat_cmp, is_eq, match_ordering}
+use Rattle.std.specs.Ordering.{nat_cmp, match_ordering}
 use Rattle.std.specs.declared.cmp.Ordering.{Ordering}
 use Rattle.std.specs.declared.cmp.Ordering.TheVariants.{Less, Equal, Greater}
 use Rattle.std.specs.declared.option.Option.{Option}
 use Rattle.handle_table.proofs.SlotLemmas.{is_at-same, is_at-other}
 use Rattle.ref_counts.specs.declared.held.Held.{Held}
-use Rattle.ref_counts.specs.CountMaps.{CountMap, entry_at, counts_at, ChangesAt}
+use Rattle.ref_counts.specs.CountMaps.{entry_at, counts_at, ChangesAt}
 use Rattle.ref_counts.specs.Queues.{Entries, counts_of, counted, held_at}
 
 module _ {X : Type 0} where

@@ -3,7 +3,6 @@ use Rattle.std.specs.BTreeMap.{is_at}
 use Rattle.std.specs.Map.{lookup}
 use Rattle.std.specs.Ordering.{nat_cmp}
 use Rattle.ref_counts.proofs.EntryFacts.{set_value-absent}
-use Rattle.ref_counts.proofs.QueueFacts.{Queues-born}
 use Rattle.ref_counts.proofs.entries.write.Goals as goal
 
 pub returns-in_default : goal.returns-in_default

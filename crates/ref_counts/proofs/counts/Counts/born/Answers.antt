@@ -1,4 +1,4 @@
-use Rattle.std.proofs.Common.{◌≡◌, None, Some, sym, ap, ◌∙◌}
+use Rattle.std.proofs.Common.{◌≡◌, None, Some, ap, ◌∙◌}
 use Rattle.ref_counts.specs.CountMaps.{entry_at}
 use Rattle.ref_counts.specs.Queues.{counted, newborn}
 use Rattle.ref_counts.proofs.EntryFacts.{counted-insert_entry, ChangesAt-insert}

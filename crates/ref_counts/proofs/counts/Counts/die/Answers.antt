@@ -1,9 +1,6 @@
-use Rattle.std.proofs.Common.{◌≡◌, ◌+◌, length, Some, IsSome, sym, ap, subst, ◌∙◌, arith}
-use Rattle.std.specs.BTreeMap.{is_at}
-use Rattle.std.specs.BinaryHeap.{heap_items, heap_capacity}
-use Rattle.std.specs.Map.{lookup}
-use Rattle.std.specs.Ordering.{nat_cmp}
-use Rattle.ref_counts.specs.Queues.{counted, held_at, found_dead, Queues}
+use Rattle.std.proofs.Common.{◌≡◌, ◌+◌, length, Some, sym, ap, subst, ◌∙◌, arith}
+use Rattle.std.specs.BinaryHeap.{heap_items}
+use Rattle.ref_counts.specs.Queues.{counted}
 use Rattle.ref_counts.specs.CountMaps.{IsLeastDead, counts_at}
 use Rattle.ref_counts.proofs.QueueFacts.{Queues-bury, first-is-least, no-zeros, counted-dead, counted-alive, ChangesAt-bury}
 use Rattle.ref_counts.proofs.counts.Counts.die.Goals as goal
