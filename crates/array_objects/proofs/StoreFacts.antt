@@ -43,6 +43,7 @@ changed-update m h change q = found (array_at m h) refl
       | inl same ↦ ap (λ n. is_eq (nat_cmp n y)) same
       | inr apart ↦ absurd (true≢false (sym at ∙ is_at-other h x apart))
     ]
+
     found : (o : Option Array) → array_at m h ≡ o → array_at (with_change m h change o) q ≡ cond (is_at (nat_cmp h) q) (option_map change o) (array_at m q)
     found None is = elim (cases_eq h q) [
       | inl same ↦ subst (λ x. array_at m x ≡ None) same is ∙ sym (ap (λ (b : Bool). cond b None (array_at m q)) (is_at-same h q same))

@@ -28,8 +28,7 @@ impl Array {
     pub fn is_out(&self, lent: &Lent) -> bool
         ensures { IsTrue result ↔ IsOut (Some self.now) lent.now.number (length lent.now.elements.bytes) }
     {
-        self.loan == Some(lent.number())
-            && self.block.bytes.as_slice().len() == lent.bytes().len()
+        self.loan == Some(lent.number()) && self.block.bytes.as_slice().len() == lent.bytes().len()
     }
 
     fn note_loan(&mut self, number: u64)

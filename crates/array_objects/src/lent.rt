@@ -1,11 +1,14 @@
-ghost use Rattle.std.specs.Prelude.{◌≡◌};
+ghost use Rattle.std.specs.Prelude.{◌≡◌, ◌<◌, IsTrue, length};
 ghost use Rattle.std.specs.Borrow.{sem, Array as Row, Lends, follows, u8 as byte};
+ghost use Rattle.dev_types.specs.Blocks.{FitsBlock, with_part};
+ghost use Rattle.dev_types.specs.ValueBytes.{type_of, bytes_of, is_well_typed};
+ghost use Rattle.byte_view.specs.Elements.{with_element};
 ghost use Rattle.byte_view.specs.Halves.{elements, borrow_of};
 ghost use Rattle.array_objects.specs.Loans.{with_bytes};
 
 use crate::arrays::Block;
 use byte_view::{Strided, StridedMut};
-use dev_types::{DataType, Handle};
+use dev_types::{DataType, Handle, Value};
 use std::marker::Model;
 
 /// A loan of an array's memory, to be written and then given back (ANARI 1.0 Specification, mapping
@@ -85,6 +88,17 @@ impl Lent {
         StridedMut::over(&mut self.bytes, self.ty, self.stride, self.count)
     }
 
+    /// Writes element `i`: its own bytes, and no other byte of the loan.
+    pub fn set(&mut self, i: u64, v: &Value)
+        requires within { i < self.old.elements.count }
+        requires typed { type_of v.now ≡ self.old.elements.ty }
+        requires well_typed { IsTrue (is_well_typed v.now) }
+        ensures { self.new ≡ record self.old { elements = with_element self.old.elements i (bytes_of v.now) } }
+    {
+        let (ty, stride, count) = (self.ty, self.stride, self.count);
+        write_element(&mut self.bytes, ty, stride, count, i, v);
+    }
+
     /// All bytes of the loan, also those between the elements and behind the last.
     pub fn bytes(&self) -> &[u8]
         ensures { result.now ≡ self.now.elements.bytes }
@@ -114,4 +128,14 @@ impl Lent {
         } = self;
         bytes
     }
+}
+
+fn write_element(bytes: &mut [u8], ty: DataType, stride: u64, count: u64, i: u64, v: &Value)
+    requires fits { FitsBlock ty stride count (length bytes.old) }
+    requires within { i < count }
+    requires typed { type_of v.now ≡ ty }
+    requires well_typed { IsTrue (is_well_typed v.now) }
+    ensures { bytes.new ≡ with_part ty stride bytes.old i (bytes_of v.now) }
+{
+    StridedMut::over(bytes, ty, stride, count).set(i, v);
 }

@@ -43,7 +43,7 @@ impl ArrayStore {
     /// Keeps a block for an array that has none yet. Its elements must lie in its bytes, as
     /// `Strided::new` tells. Where there is no memory, the block comes back and the store is as it was.
     pub fn add(&mut self, _alloc: Global, h: Handle, block: Block) -> Result<(), (NoMemory, Block)>
-        requires free { array_at self.old h ≡ None }
+        requires free { block_at self.old h ≡ None }
         requires fits { Fits block }
         ensures added { OnOk result (self.new ≡ insert_entry nat_cmp self.old h (record { block = block; loan = None })) }
         ensures changes { OnOk result (ChangesAt self.old self.new h (Some (record { block = block; loan = None }))) }
@@ -143,12 +143,7 @@ impl ArrayStore {
     {
         let arrays = &self.arrays;
         let block = &arrays.get(&h)?.block;
-        Some(Strided::over(
-            block.bytes.as_slice(),
-            block.ty,
-            block.stride,
-            block.count,
-        ))
+        Some(Strided::over(block.bytes.as_slice(), block.ty, block.stride, block.count))
     }
 
     /// The block of an array; `None` exactly where there is no such array.

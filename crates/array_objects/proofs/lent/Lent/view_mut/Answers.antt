@@ -6,8 +6,7 @@ use Rattle.array_objects.proofs.LoanFacts.{lent_written}
 use Rattle.array_objects.proofs.lent.Lent.view_mut.Goals as goal
 
 pub returns : goal.returns
-returns c =
-    (
-      (sym c.over.ensures.same_borrow, λ w. lent_written (the_view c.self.inside) c.self.inside.bytes.len w c.self.inside.bytes.ok.0 ∙ ap (λ l. with_bytes l w) c.self.view_is),
-      record { writes_back = tt; value = search rules },
-    )
+returns c = (
+  (sym c.over.ensures.same_borrow, λ w. lent_written (the_view c.self.inside) c.self.inside.bytes.len w c.self.inside.bytes.ok.0 ∙ ap (λ l. with_bytes l w) c.self.view_is),
+  record { writes_back = tt; value = search rules },
+)
