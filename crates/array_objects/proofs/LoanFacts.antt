@@ -2,7 +2,6 @@
 use Rattle.std.proofs.Common.{◌≡◌, ℕ, List, ◌++◌, length, take, drop, ap, sym, ◌∙◌}
 use Rattle.std.proofs.Math.Seq.{take-append_seam}
 use Rattle.std.specs.List.{refill}
-use Rattle.byte_view.specs.Elements.{Elements}
 use Rattle.array_objects.specs.Loans.{Loan, with_bytes}
 
 -- a write to the vector inside is one to the loan

@@ -1,17 +1,15 @@
 -- What a change at one handle leaves of a store.
-use Rattle.std.proofs.Common.{◌≡◌, ◌≢◌, ℕ, ◌≤◌, Bool, true, false, true≢false, List, [], ◌∷◌, length, Some, None, IsSome, IsTrue, cond, refl, sym, ap, subst, ◌∙◌, inl, inr, option_map}
+use Rattle.std.proofs.Common.{◌≡◌, ℕ, Bool, true, true≢false, List, length, Some, None, IsSome, cond, refl, sym, ap, subst, ◌∙◌, inl, inr, option_map}
 use Rattle.std.proofs.lemmas.Bool.{cases_eq}
 use Rattle.std.proofs.lemmas.Cmp.{eq_by_cmp_equiv, nat_cmp_total}
 use Rattle.std.proofs.lemmas.Map.{lookup-set_value}
 use Rattle.std.proofs.lemmas.Option.{none-some}
 use Rattle.std.specs.BTreeMap.{is_at}
-use Rattle.std.specs.Map.{lookup, set_value}
 use Rattle.std.specs.Ordering.{nat_cmp, is_eq, eq_by_cmp}
 use Rattle.std.specs.declared.option.Option.{Option}
 use Rattle.handle_table.proofs.SlotLemmas.{is_at-same, is_at-other}
 use Rattle.dev_types.specs.Blocks.{FitsBlock}
 use Rattle.array_objects.specs.declared.arrays.Array.{Array}
-use Rattle.array_objects.specs.declared.arrays.Block.{Block}
 use Rattle.array_objects.specs.Stores.{Arrays, array_at, with_change, changed_at, unmapped, mapped, IsOut, block_at, Fits, AllFit, ChangesAt}
 
 -- the new store has this at the handle, as std's maps say it

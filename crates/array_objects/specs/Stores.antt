@@ -1,5 +1,5 @@
 -- A store of arrays, as contracts see it.
-use Rattle.std.specs.Prelude.{◌≡◌, ◌≢◌, ℕ, ◌≤◌, Bool, true, false, ◌&&◌, ◌⊎◌, List, length, Option, Some, None, option_map, IsSome, nat_eq}
+use Rattle.std.specs.Prelude.{◌≡◌, ◌≢◌, ℕ, ◌⊎◌, List, length, Option, Some, None, option_map, IsSome}
 use Rattle.std.specs.BTreeMap.{is_at}
 use Rattle.std.specs.Map.{lookup, set_value}
 use Rattle.std.specs.Ordering.{nat_cmp}
@@ -9,7 +9,6 @@ use Rattle.dev_types.specs.declared.refusals.Refused.TheVariants.{ArrayMapped, N
 use Rattle.byte_view.specs.Elements.{Elements}
 use Rattle.array_objects.specs.declared.arrays.Array.{Array}
 use Rattle.array_objects.specs.declared.arrays.Block.{Block}
-use Rattle.array_objects.specs.Loans.{Loan}
 
 -- the arrays by rising handle: each with its block, and with the number of the loan that is out, if one is
 abbrev pub Arrays : Type 0

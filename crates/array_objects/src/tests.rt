@@ -147,27 +147,38 @@ fn expect_refused(rt: &impl Abort, alloc: Global, other: &mut ArrayStore) -> Res
     }
 }
 
+/// A store whose array is mapped under the number.
+fn mapped_store(
+    rt: &impl Abort,
+    alloc: Global,
+    bytes: &[u8],
+    number: u64,
+) -> Result<ArrayStore, Fail> {
+    let mut store = ArrayStore::new(alloc);
+    add_vectors(rt, alloc, &mut store, bytes)?;
+    lent(rt, alloc, &mut store, number)?.give_up();
+    Ok(store)
+}
+
 #[test]
-fn a_loan_that_is_not_out_is_refused(rt: HostRuntime) -> Result<(), Fail> {
-    let mut store = ArrayStore::new(rt.alloc());
-    add_vectors(&rt, rt.alloc(), &mut store, &[1; 36])?;
-    // The array is not mapped.
+fn a_loan_of_another_number_or_length_is_refused(rt: HostRuntime) -> Result<(), Fail> {
+    for (number, len) in [(6, 36), (5, 24)] {
+        let bytes = [1; 36];
+        let mut store = mapped_store(&rt, rt.alloc(), &bytes[..len], number)?;
+        expect_refused(&rt, rt.alloc(), &mut store)?;
+        assert!(rt; store.loan(ARRAY) == Some(number), "{number} {len}");
+    }
+    Ok(())
+}
+
+#[test]
+fn a_loan_of_an_array_that_was_taken_out_is_refused(rt: HostRuntime) -> Result<(), Fail> {
+    let mut store = mapped_store(&rt, rt.alloc(), &[1; 36], 5)?;
+    let Some(block) = store.remove(ARRAY) else {
+        return Err("a mapped array was not taken out".into());
+    };
+    assert!(rt; block.bytes.as_slice() == [1; 36].as_slice() && store.loan(ARRAY).is_none());
     expect_refused(&rt, rt.alloc(), &mut store)?;
-    // It is mapped under another number.
-    lent(&rt, rt.alloc(), &mut store, 6)?.give_up();
-    expect_refused(&rt, rt.alloc(), &mut store)?;
-    // It was taken out while it was mapped under this number.
-    let mapped = store.remove(ARRAY);
-    add_vectors(&rt, rt.alloc(), &mut store, &[1; 36])?;
-    lent(&rt, rt.alloc(), &mut store, 5)?.give_up();
-    store.remove(ARRAY);
-    expect_refused(&rt, rt.alloc(), &mut store)?;
-    assert!(rt; mapped.is_some_and(|block| block.bytes.as_slice() == [1; 36].as_slice()));
-    // The loan that is out has another length.
-    add_vectors(&rt, rt.alloc(), &mut store, &[1; 24])?;
-    lent(&rt, rt.alloc(), &mut store, 5)?.give_up();
-    expect_refused(&rt, rt.alloc(), &mut store)?;
-    assert!(rt; store.loan(ARRAY) == Some(5) && store.remove(ARRAY).is_some());
     assert!(rt; store.view(ARRAY).is_none() && store.remove(ARRAY).is_none());
     Ok(())
 }

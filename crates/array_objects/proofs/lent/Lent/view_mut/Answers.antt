@@ -1,5 +1,4 @@
-use Rattle.std.proofs.Common.{rules, refl, sym, ap, ◌∙◌}
-use Rattle.byte_view.specs.Halves.{elements}
+use Rattle.std.proofs.Common.{rules, sym, ap, ◌∙◌}
 use Rattle.array_objects.specs.Loans.{with_bytes}
 use Rattle.array_objects.specs.contracts.lent.Lent.{the_view}
 use Rattle.array_objects.proofs.LoanFacts.{lent_written}
