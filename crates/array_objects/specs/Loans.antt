@@ -9,6 +9,6 @@ pub record Loan : Type 0 where
   pub number : ℕ
   pub elements : Elements
 
--- the loan with other bytes, of which it takes as many as it has
+-- the loan with other bytes: as many as it has, so they are cut or filled up from its own
 abbrev pub with_bytes : Loan → List ℕ → Loan
 with_bytes l bytes = record l { elements = record l.elements { bytes = refill (length l.elements.bytes) l.elements.bytes bytes } }

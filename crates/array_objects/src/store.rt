@@ -112,14 +112,12 @@ impl ArrayStore {
         ensures refused_mapped { IsSome (loan_at self.now h) → result ≡ Err (ArrayMapped h) }
         ensures causes { IfErr result (IsMapRefusal self.now h) }
     {
-        let arrays = &self.arrays;
-        let Some(array) = arrays.get(&h) else {
-            unreachable!();
-        };
-        if array.loan.is_some() {
+        if self.loan(h).is_some() {
             return Err(Refused::ArrayMapped(h));
         }
-        let block = &array.block;
+        let Some(block) = self.block(h) else {
+            unreachable!();
+        };
         match Vec::from_slice(alloc, block.bytes.as_slice()) {
             Ok(bytes) => Ok(Lent::new(h, number, block, bytes)),
             Err(_) => Err(Refused::NoMemory),
@@ -141,16 +139,17 @@ impl ArrayStore {
     pub fn view(&self, h: Handle) -> Option<Strided<'_>>
         ensures { result ≡ option_map elements_of (block_at self.now h) }
     {
-        let arrays = &self.arrays;
-        let block = &arrays.get(&h)?.block;
+        let block = self.block(h)?;
         Some(Strided::over(block.bytes.as_slice(), block.ty, block.stride, block.count))
     }
 
-    /// The block of an array; `None` exactly where there is no such array.
+    /// The block of an array, in which its elements lie; `None` exactly where there is no such array.
     pub fn block(&self, h: Handle) -> Option<&Block>
-        ensures { option_copied result ≡ block_at self.now h }
+        ensures block { option_copied result ≡ block_at self.now h }
+        ensures fits { IfSome result (λ b. Fits b.now) }
     {
-        Some(&self.arrays.get(&h)?.block)
+        let arrays = &self.arrays;
+        Some(&arrays.get(&h)?.block)
     }
 
     /// The number of the loan of an array that is out; `None` exactly where the array is not mapped.
@@ -164,6 +163,7 @@ impl ArrayStore {
     /// no such array.
     pub fn remove(&mut self, h: Handle) -> Option<Block>
         ensures value { result ≡ block_at self.old h }
+        ensures fits { IfSome result Fits }
         ensures removed { self.new ≡ remove_entry (is_at (nat_cmp h)) self.old }
         ensures changes { ChangesAt self.old self.new h None }
     {

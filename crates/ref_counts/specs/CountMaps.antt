@@ -6,7 +6,7 @@ use Rattle.std.specs.Map.{lookup, set_value}
 use Rattle.std.specs.Ordering.{nat_cmp}
 
 -- the handles that were born, by rising handle: each with its public and its named count, or with
--- nothing once it was given to its end
+-- nothing once it was given as dead
 abbrev pub CountMap : Type 0
 CountMap = List (ℕ × Option (ℕ × ℕ))
 
@@ -14,7 +14,7 @@ CountMap = List (ℕ × Option (ℕ × ℕ))
 abbrev pub entry_at : CountMap → ℕ → Option (Option (ℕ × ℕ))
 entry_at m h = lookup (is_at (nat_cmp h)) m
 
--- the public and the named count of a handle; none where it was not born, or was given to its end
+-- the public and the named count of a handle; none where it was not born, or was given as dead
 abbrev pub counts_at : CountMap → ℕ → Option (ℕ × ℕ)
 counts_at m h = unwrap_or (entry_at m h) None
 
@@ -29,7 +29,7 @@ named_at m h = unwrap_or (option_map (λ c. c.1) (counts_at m h)) 0
 abbrev pub with_counts : CountMap → ℕ → Option (ℕ × ℕ) → CountMap
 with_counts m h counts = set_value (is_at (nat_cmp h)) m counts
 
--- nothing holds the handle, and it was not given to its end
+-- nothing holds the handle, and it was not given yet
 abbrev pub IsDead : CountMap → ℕ → Type 0
 IsDead m h = counts_at m h ≡ Some (0, 0)
 

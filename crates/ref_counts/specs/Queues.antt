@@ -12,7 +12,7 @@ use Rattle.std.specs.declared.cmp.Reverse.{Reverse}
 use Rattle.ref_counts.specs.declared.held.Held.{Held}
 use Rattle.ref_counts.specs.CountMaps.{CountMap}
 
--- what stands at each handle that was born: nothing once it was given to its end
+-- what stands at each handle that was born: nothing once it was given as dead
 abbrev pub Entries : Type 0
 Entries = List (ℕ × Option Held)
 
@@ -40,8 +40,7 @@ is_dead s = nat_eq s.public 0 && nat_eq s.named 0
 abbrev pub needs_place : Held → Bool
 needs_place s = cond s.queued false (is_dead s)
 
--- whether what stands at a handle is without counts, and what stands there once that is settled and it
--- is out of the queue
+-- whether what stands at a handle is without counts; and what stands there once it left the queue
 abbrev pub found_dead : Option Held → Bool
 found_dead None = false
 found_dead (Some s) = is_dead s

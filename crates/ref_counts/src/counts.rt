@@ -3,20 +3,20 @@ ghost use Rattle.std.specs.BTreeMap.{insert_entry};
 ghost use Rattle.std.specs.Ordering.{nat_cmp};
 ghost use Rattle.ref_counts.specs.CountMaps.{entry_at, counts_at, public_at, named_at, with_counts, IsLeastDead, ChangesAt};
 
-use crate::entries::{add, bury, enqueue, held_at, is_queued, write};
+use crate::entries::{Entries, Queue, add, bury, enqueue, held_at, is_queued, write};
 use crate::held::Held;
 use dev_types::{Handle, NoMemory};
 use std::alloc::Global;
-use std::cmp::Reverse;
 use std::collections::{BTreeMap, BinaryHeap};
 use std::marker::Model;
 
 /// For each handle the number of public references to it, and the number of places that name it.
 #[derive(Drop)]
 pub struct Counts {
-    held: BTreeMap<Handle, Option<Held>>,
-    // Each dead handle stands here, and some that were dead and are no longer. There is room for all.
-    queue: BinaryHeap<Reverse<Handle>>,
+    held: Entries,
+    // Each dead handle stands here, and maybe some that are dead no longer. Who is not here has room
+    // kept for it, so that nobody dies for want of memory.
+    queue: Queue,
 }
 
 impl Model for Counts {

@@ -12,15 +12,21 @@ use dev_types::{Handle, NoMemory};
 use std::cmp::Reverse;
 use std::collections::{BTreeMap, BinaryHeap};
 
+/// What stands at each handle that was born: nothing once it was given as dead.
+pub type Entries = BTreeMap<Handle, Option<Held>>;
+
+/// The handles that may be dead, the least first.
+pub type Queue = BinaryHeap<Reverse<Handle>>;
+
 /// The counts that stand at the handle.
-pub fn held_at(entries: &BTreeMap<Handle, Option<Held>>, h: Handle) -> Option<Held>
+pub fn held_at(entries: &Entries, h: Handle) -> Option<Held>
     ensures { result ≡ held_at entries.now.entries h }
 {
     *entries.get(&h)?
 }
 
 /// Whether the handle stands in the queue.
-pub fn is_queued(entries: &BTreeMap<Handle, Option<Held>>, h: Handle) -> bool
+pub fn is_queued(entries: &Entries, h: Handle) -> bool
     ensures { result ≡ queued_of (held_at entries.now.entries h) }
 {
     match held_at(entries, h) {
@@ -30,7 +36,7 @@ pub fn is_queued(entries: &BTreeMap<Handle, Option<Held>>, h: Handle) -> bool
 }
 
 /// Writes what stands at the handle, where it was born.
-pub fn write(entries: &mut BTreeMap<Handle, Option<Held>>, h: Handle, held: Option<Held>)
+pub fn write(entries: &mut Entries, h: Handle, held: Option<Held>)
     ensures { entries.new.entries ≡ set_value (is_at (nat_cmp h)) entries.old.entries held }
 {
     if let Some(place) = entries.get_mut(&h) {
@@ -39,7 +45,7 @@ pub fn write(entries: &mut BTreeMap<Handle, Option<Held>>, h: Handle, held: Opti
 }
 
 /// Puts a new handle in, with one public reference and no place that names it.
-pub fn add(entries: &mut BTreeMap<Handle, Option<Held>>, h: Handle) -> Result<(), NoMemory>
+pub fn add(entries: &mut Entries, h: Handle) -> Result<(), NoMemory>
     requires { lookup (is_at (nat_cmp h)) entries.old.entries ≡ None }
     ensures entries { OnOk result (entries.new.entries ≡ insert_entry nat_cmp entries.old.entries h (Some newborn)) }
     ensures updates { OnOk result (Updates nat_cmp entries.old entries.new h (Some (Some newborn))) }
@@ -57,8 +63,8 @@ pub fn add(entries: &mut BTreeMap<Handle, Option<Held>>, h: Handle) -> Result<()
     }
 }
 
-/// Looks at a handle that left the queue: where it is dead, nothing stands there from then on.
-pub fn bury(entries: &mut BTreeMap<Handle, Option<Held>>, h: Handle) -> bool
+/// Looks at a handle that left the queue. Where it is dead, nothing stands there from then on.
+pub fn bury(entries: &mut Entries, h: Handle) -> bool
     ensures dead { result ≡ found_dead (held_at entries.old.entries h) }
     ensures entries { entries.new.entries ≡ set_value (is_at (nat_cmp h)) entries.old.entries (unless_dead (held_at entries.old.entries h)) }
 {
@@ -80,7 +86,7 @@ pub fn bury(entries: &mut BTreeMap<Handle, Option<Held>>, h: Handle) -> bool
 }
 
 /// Puts the handle into the queue, which has room for it.
-pub fn enqueue(queue: &mut BinaryHeap<Reverse<Handle>>, h: Handle)
+pub fn enqueue(queue: &mut Queue, h: Handle)
     requires { heap_len queue.old < heap_capacity queue.old }
     ensures permutation { IsPermutation (record { 0 = h } ∷ heap_items queue.old) (heap_items queue.new) }
     ensures order { KeepsHeap least_first (heap_items queue.old) (heap_items queue.new) }

@@ -1,6 +1,6 @@
 ghost use Rattle.std.specs.Prelude.{◌≡◌};
 
-/// The counts of a handle that was not given to its end.
+/// The counts of a handle that was not given as dead.
 #[derive(Clone, Copy)]
 pub struct Held {
     pub public: u64,
@@ -12,6 +12,7 @@ pub struct Held {
 impl Held {
     ghost use Rattle.ref_counts.specs.Queues.{is_dead, needs_place};
 
+    /// Whether nothing holds the handle.
     pub fn is_dead(self) -> bool
         ensures { result ≡ is_dead self }
     {
