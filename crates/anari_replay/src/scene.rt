@@ -5,8 +5,10 @@ ghost use Rattle.anari_replay.specs.Scenes.{ambient, camera_of, image_of, scene_
 
 use crate::first_trace::FirstTrace;
 use dev_types::{Bytes, NoMemory};
-use fx_math::{CameraRow, LightList, Lighting, Place, Shape, Vec3};
-use picture_model::{NO_ID, Plane, Primitive, PrimitiveList, Scene, picture};
+use fx_math::{
+    CameraRow, LightList, Lighting, NO_ID, Place, Primitive, PrimitiveList, Scene, Shape, Vec3,
+};
+use picture_model::{Plane, picture};
 use ppm_out::{MappedBytes, write_ppm};
 use std::alloc::{AllocError, Global};
 

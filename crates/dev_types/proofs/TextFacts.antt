@@ -9,7 +9,7 @@ use Rattle.std.proofs.lemmas.Grind.{common_steps}
 use Rattle.dev_types.specs.Bounded.{is_name, is_name_byte, is_text}
 
 -- both halves of a conjunction that holds
-both : (a b : Bool) → (a && b) ≡ true → (a ≡ true) × (b ≡ true)
+pub both : (a b : Bool) → (a && b) ≡ true → (a ≡ true) × (b ≡ true)
 both a b h = grind (arith, common_steps)
 
 -- a text's bytes are UTF-8

@@ -3,3 +3,4 @@ pub mod Bounded
 pub mod DataTypes
 pub mod Refusals
 pub mod ValueBytes
+pub mod Words

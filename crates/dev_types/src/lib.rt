@@ -14,6 +14,7 @@ pub mod refusals;
 mod tests;
 pub mod texts;
 pub mod values;
+pub mod words;
 
 pub use answers::{Names, ParamInfo, Ready, TypeList};
 pub use blocks::Bytes;

@@ -9,7 +9,9 @@ mod vectors;
 
 pub use directions::unit;
 pub use roots::isqrt;
-pub use scene::{CameraRow, LightList, LightRow, Lighting, Place, Shape};
+pub use scene::{
+    CameraRow, LightList, LightRow, Lighting, NO_ID, Place, Primitive, PrimitiveList, Scene, Shape,
+};
 pub use transforms::{Mat34, transform, transform_direction, transform_radius};
 pub use vectors::{Ray, Vec3, add, cross, dot, neg, reach, scaled_down, sub, times};
 

@@ -121,3 +121,68 @@ pub struct Lighting {
     pub ambient_color: [i32; 3],
     pub ambient_radiance: i32,
 }
+
+/// An id where there is none.
+pub const NO_ID: u32 = 0xFFFF_FFFF;
+
+/// A triangle or a sphere of a scene, and what a pixel shows where it is hit (ANARI 1.0 Specification, Surface).
+#[derive(Clone, Copy, Debug, PartialEq, Eq)]
+pub struct Primitive {
+    pub place: Place,
+    pub shape: Shape,
+    /// Red, green and blue of its material, each 65536 for one, and none negative.
+    pub color: [i32; 3],
+    /// 0 for what lets all light through, to 65536 for what lets none.
+    pub opacity: i32,
+    /// The `id` of its surface, or 0xFFFFFFFF where that has none.
+    pub object_id: u32,
+    /// The `id` of its instance, or 0xFFFFFFFF where that has none, and at the world's own surfaces.
+    pub instance_id: u32,
+}
+
+/// The primitives of a scene, in any order.
+#[derive(Debug, Drop)]
+pub struct PrimitiveList {
+    primitives: Vec<Primitive>,
+}
+
+impl Model for PrimitiveList {
+    ghost use Rattle.std.specs.Prelude.{List};
+    ghost use Rattle.fx_math.specs.declared.scene.Primitive.{Primitive};
+
+    ghost Value = { List Primitive };
+
+    ghost view = { λ l. l.primitives.items };
+}
+
+impl PrimitiveList {
+    pub fn new(primitives: Vec<Primitive>) -> Self
+        ensures { result ≡ primitives.items }
+    {
+        PrimitiveList { primitives }
+    }
+
+    pub fn as_slice(&self) -> &[Primitive]
+        ensures { result.now ≡ self.now }
+    {
+        self.primitives.as_slice()
+    }
+
+    /// The same primitives, without the list's type.
+    pub fn into_vec(self) -> Vec<Primitive>
+        ensures { result.items ≡ self }
+    {
+        self.primitives
+    }
+}
+
+/// All that a picture is made from.
+#[derive(Debug, Drop)]
+pub struct Scene {
+    pub primitives: PrimitiveList,
+    pub camera: CameraRow,
+    pub lighting: Lighting,
+    /// Pixels, 1 to 4096 each way.
+    pub width: u32,
+    pub height: u32,
+}

@@ -5,7 +5,7 @@ use Rattle.fx_math.specs.declared.vectors.Ray.{Ray}
 use Rattle.fx_math.specs.declared.scene.Place.{Place}
 use Rattle.fx_math.specs.declared.scene.Shape.{Shape}
 use Rattle.picture_model.specs.declared.records.Hit.{Hit}
-use Rattle.picture_model.specs.declared.records.Primitive.{Primitive}
+use Rattle.fx_math.specs.declared.scene.Primitive.{Primitive}
 use Rattle.picture_model.specs.Hits.{hit_after, hits, hits_from, nearest}
 use Rattle.picture_model.specs.Shading.{placed}
 

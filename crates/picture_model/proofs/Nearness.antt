@@ -15,7 +15,7 @@ use Rattle.picture_model.specs.declared.depths.Crossing.{Crossing}
 use Rattle.picture_model.specs.declared.records.Blend.{Blend}
 use Rattle.picture_model.specs.declared.records.Hit.{Hit}
 use Rattle.picture_model.specs.declared.records.HitRow.{HitRow}
-use Rattle.picture_model.specs.declared.records.Primitive.{Primitive}
+use Rattle.fx_math.specs.declared.scene.Primitive.{Primitive}
 use Rattle.picture_model.specs.Depths.{crossing, crossing_depth, depth, first_from, is_crossed, is_in_ball, sphere_depth, turned}
 use Rattle.picture_model.specs.Hits.{all_hits, hit_after, is_nearer, nearer, nearest, nearest_of}
 use Rattle.picture_model.specs.Limits.{IsBlendWithin, IsHitRowWithin, IsPrimitiveWithin}

@@ -10,7 +10,7 @@ use Rattle.fx_math.specs.declared.vectors.Ray.{Ray}
 use Rattle.picture_model.proofs.HitOrder.{nearest_of-append}
 use Rattle.picture_model.specs.declared.records.Blend.{Blend}
 use Rattle.picture_model.specs.declared.records.HitRow.{HitRow}
-use Rattle.picture_model.specs.declared.records.Primitive.{Primitive}
+use Rattle.fx_math.specs.declared.scene.Primitive.{Primitive}
 use Rattle.picture_model.specs.Depths.{depth}
 use Rattle.picture_model.specs.Hits.{all_hits, hit_with, nearer, nearest, nearest_of}
 use Rattle.picture_model.specs.Shading.{blend_hit, blended, component, finish_blend, placed, radiance, shown, weight}

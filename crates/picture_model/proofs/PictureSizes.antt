@@ -2,7 +2,7 @@
 use Rattle.std.proofs.Common.{◌≡◌, ℕ, zero, suc, ◌+◌, ◌*◌, List, length, length-append, arith, refl, ◌∙◌}
 use Rattle.picture_model.specs.declared.records.Plane.{Plane}
 use Rattle.picture_model.specs.declared.records.Plane.TheVariants.{Color, PrimitiveId, ObjectId, InstanceId}
-use Rattle.picture_model.specs.declared.records.Scene.{Scene}
+use Rattle.fx_math.specs.declared.scene.Scene.{Scene}
 use Rattle.picture_model.specs.Shading.{finish_blend, shade}
 use Rattle.picture_model.specs.Pictures.{in_a_row, picture, pixel, pixels_in}
 

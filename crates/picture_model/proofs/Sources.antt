@@ -1,7 +1,7 @@
 -- A list of primitives as a source of places and shapes.
 use Rattle.std.proofs.Common.{◌≡◌, ℕ, zero, suc, ◌<◌, List, [], ◌∷◌, Some, length, map, get_or, arith, refl}
 use Rattle.std.specs.List.{slice_get}
-use Rattle.picture_model.specs.declared.records.Primitive.{Primitive}
+use Rattle.fx_math.specs.declared.scene.Primitive.{Primitive}
 use Rattle.picture_model.specs.Shading.{placed}
 
 pub place_at : (ps : List Primitive) (i : ℕ) (d : Primitive) → i < length (placed ps) → slice_get (map (λ p. p.0) (placed ps)) i ≡ Some (get_or ps i d).place

@@ -14,9 +14,9 @@ use Rattle.picture_model.specs.declared.depths.Crossing.{Crossing}
 use Rattle.picture_model.specs.declared.rays.Axes.{Axes}
 use Rattle.picture_model.specs.declared.records.Blend.{Blend}
 use Rattle.picture_model.specs.declared.records.HitRow.{HitRow}
-use Rattle.picture_model.specs.declared.records.Primitive.{Primitive}
+use Rattle.fx_math.specs.declared.scene.Primitive.{Primitive}
 use Rattle.picture_model.specs.Shading.{component}
-use Rattle.picture_model.specs.declared.records.Scene.{Scene}
+use Rattle.fx_math.specs.declared.scene.Scene.{Scene}
 
 -- low ≤ z ≤ high
 pub record IsBetween (low high : ℕ) (z : ℤ) : Type 0 where

@@ -16,7 +16,7 @@ use Rattle.fx_math.specs.declared.scene.Lighting.{Lighting}
 use Rattle.picture_model.specs.declared.records.Blend.{Blend}
 use Rattle.picture_model.specs.declared.records.Hit.{Hit}
 use Rattle.picture_model.specs.declared.records.HitRow.{HitRow}
-use Rattle.picture_model.specs.declared.records.Primitive.{Primitive}
+use Rattle.fx_math.specs.declared.scene.Primitive.{Primitive}
 use Rattle.picture_model.specs.Fixed.{◌/ℤ◌, product}
 use Rattle.picture_model.specs.Hits.{hits}
 

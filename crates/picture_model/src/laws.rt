@@ -7,8 +7,8 @@ ghost use Rattle.picture_model.specs.Pictures.{in_a_row, pixel, row_of, whole};
 ghost use Rattle.picture_model.specs.Shading.{blend_hit, finish_blend, placed};
 ghost use Rattle.picture_model.specs.Tiles.{tile_rect, tiles_over};
 
-use crate::records::{Blend, HitRow, Plane, Primitive, Scene};
-use fx_math::{Lighting, Ray, Shape};
+use crate::records::{Blend, HitRow, Plane};
+use fx_math::{Lighting, Primitive, Ray, Scene, Shape};
 
 /// The depth number that is found is the one that the conditions on a hit describe, and where none is found there is none.
 pub fn depth_is_exact(ray: &Ray, shape: &Shape)

@@ -23,7 +23,7 @@ pub use laws::{
 pub use limits::is_scene_within;
 pub use pictures::{part, picture, pixel, shade};
 pub use rays::{Axes, camera_ray};
-pub use records::{Blend, Hit, HitRow, NO_ID, Plane, Primitive, PrimitiveList, Rect, Scene};
+pub use records::{Blend, Hit, HitRow, Plane, Rect};
 pub use search::{hit_after, hits, is_nearer, nearer, nearest};
 pub use shading::{blend_hit, finish_blend, to_byte};
 pub use source::PrimSource;

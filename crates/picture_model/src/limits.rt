@@ -2,8 +2,7 @@ ghost use Rattle.std.specs.Prelude.{◌≡◌, ◌^◌, ◌≤◌, ◌↔◌, Is
 ghost use Rattle.fx_math.specs.Vec3.{reach};
 ghost use Rattle.picture_model.specs.Limits.{IsBetween, IsCameraWithin, IsColor, IsLampWithin, IsLightWithin, IsLightingWithin, IsPoint, IsPrimitiveWithin, IsSceneWithin, IsShapeWithin, IsSide, IsViewWithin};
 
-use crate::records::{Primitive, Scene};
-use fx_math::{CameraRow, LightRow, Lighting, Shape, Vec3, reach};
+use fx_math::{CameraRow, LightRow, Lighting, Primitive, Scene, Shape, Vec3, reach};
 
 /// A whole number lies from `low` to `high`.
 fn is_between(low: u32, high: u32, number: i64) -> bool

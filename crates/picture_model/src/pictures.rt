@@ -6,11 +6,11 @@ ghost use Rattle.picture_model.specs.Shading.{blend_any, hit_row, is_same_place,
 ghost use Rattle.picture_model.specs.Tiles.{tile_count};
 
 use crate::rays::camera_ray;
-use crate::records::{Blend, Hit, HitRow, NO_ID, Plane, Primitive, Rect, Scene};
+use crate::records::{Blend, Hit, HitRow, Plane, Rect};
 use crate::search::{hit_after, nearest};
 use crate::shading::{blend_hit, finish_blend};
 use crate::tiles::tile_rect;
-use fx_math::{Lighting, Place, Ray};
+use fx_math::{Lighting, NO_ID, Place, Primitive, Ray, Scene};
 use std::alloc::{AllocError, Global};
 
 #[tactic(auto, unfolding(crate::specs::Shading::is_same_place))]

@@ -4,8 +4,8 @@ ghost use Rattle.picture_model.specs.Limits.{IsPrimitiveWithin, IsRayWithin};
 ghost use Rattle.picture_model.specs.Shading.{placed};
 
 use crate::depths::depth;
-use crate::records::{Hit, Primitive};
-use fx_math::{Place, Ray};
+use crate::records::Hit;
+use fx_math::{Place, Primitive, Ray};
 use std::alloc::{AllocError, Global};
 
 /// Place `a` is lower than place `b`: by instance, then surface, then primitive.

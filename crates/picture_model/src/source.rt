@@ -3,8 +3,7 @@ ghost use Rattle.fx_math.specs.declared.scene.Place.{Place};
 ghost use Rattle.fx_math.specs.declared.scene.Shape.{Shape};
 ghost use Rattle.picture_model.specs.Shading.{placed};
 
-use crate::records::PrimitiveList;
-use fx_math::{Place, Shape};
+use fx_math::{Place, PrimitiveList, Shape};
 
 /// Where a search for hits takes primitives from, one at a time and by number.
 pub trait PrimSource {

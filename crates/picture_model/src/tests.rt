@@ -2,7 +2,10 @@ ghost use Rattle.std.specs.Prelude.{IfOk};
 ghost use Rattle.picture_model.specs.Limits.{IsSceneWithin};
 
 use super::*;
-use fx_math::{CameraRow, LightList, LightRow, Lighting, Place, Shape, Vec3};
+use fx_math::{
+    CameraRow, LightList, LightRow, Lighting, NO_ID, Place, Primitive, PrimitiveList, Scene, Shape,
+    Vec3,
+};
 use std::alloc::{AllocError, Global};
 use std::process::Abort;
 

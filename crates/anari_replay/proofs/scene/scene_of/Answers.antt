@@ -1,5 +1,5 @@
 use Rattle.std.proofs.Common.{◌≡◌, subst, sym, rules}
-use Rattle.picture_model.specs.declared.records.Scene.{Scene}
+use Rattle.fx_math.specs.declared.scene.Scene.{Scene}
 use Rattle.picture_model.specs.Limits.{IsSceneWithin}
 use Rattle.anari_replay.specs.Scenes.{scene_of}
 use Rattle.anari_replay.proofs.SceneLimits.{scene-within}

@@ -1,6 +1,6 @@
 use Rattle.std.proofs.Common.{◌≡◌, ℕ, ◌+◌, ◌≤◌, ℤ, pos, List, [], ◌∷◌, ◌++◌, take, drop, length, get_or, refl, ap, sym, ◌∙◌, arith, append_assoc, length-drop}
 use Rattle.fx_math.specs.declared.vectors.Vec3.{Vec3}
-use Rattle.picture_model.specs.declared.records.Primitive.{Primitive}
+use Rattle.fx_math.specs.declared.scene.Primitive.{Primitive}
 use Rattle.anari_replay.specs.Scenes.{triangle, triangles}
 use Rattle.anari_replay.proofs.scene.triangles.Goals as goal
 

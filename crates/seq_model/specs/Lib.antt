@@ -1,0 +1,13 @@
+pub mod Answers
+pub mod Builds
+pub mod Contents
+pub mod Examples
+pub mod Histories
+pub mod Legal
+pub mod Life
+pub mod Pictures
+pub mod Refusals
+pub mod Room
+pub mod State
+pub mod Steps
+pub mod Told
