@@ -10,8 +10,9 @@ use std::alloc::Global;
 use std::collections::{BTreeMap, BinaryHeap};
 use std::marker::Model;
 
-/// For each handle the number of public references to it, and the number of places that name it. A call
-/// takes time in the logarithm of the number of handles; only `born` takes memory.
+/// For each handle the number of public references to it, and the number of places that name it. Only
+/// `born` takes memory. Over many calls each costs the logarithm of the number of handles, in a cascade of
+/// deaths too.
 #[derive(Drop)]
 pub struct Counts {
     held: Entries,
