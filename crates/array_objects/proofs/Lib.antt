@@ -1,0 +1,2 @@
+pub mod LoanFacts
+pub mod StoreFacts

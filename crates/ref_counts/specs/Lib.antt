@@ -1,0 +1,2 @@
+pub mod CountMaps
+pub mod Queues
