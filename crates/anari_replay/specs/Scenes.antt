@@ -1,11 +1,12 @@
 -- The scene that the triangle's trace describes, and the image of its picture.
 use Rattle.std.specs.Prelude.{ℕ, ◌+◌, ℤ, pos, negsuc, List, [], ◌∷◌, true}
+use Rattle.fx_math.specs.Ids.{no_id}
 use Rattle.fx_math.specs.declared.vectors.Vec3.{Vec3}
 use Rattle.fx_math.specs.declared.scene.CameraRow.{CameraRow}
 use Rattle.fx_math.specs.declared.scene.CameraRow.TheVariants.{Orthographic}
 use Rattle.fx_math.specs.declared.scene.Lighting.{Lighting}
 use Rattle.fx_math.specs.declared.scene.Shape.TheVariants.{Triangle}
-use Rattle.picture_model.specs.Pictures.{no_id, picture}
+use Rattle.picture_model.specs.Pictures.{picture}
 use Rattle.picture_model.specs.declared.records.Plane.TheVariants.{Color}
 use Rattle.fx_math.specs.declared.scene.Primitive.{Primitive}
 use Rattle.fx_math.specs.declared.scene.Scene.{Scene}

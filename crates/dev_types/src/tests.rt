@@ -227,22 +227,28 @@ fn an_answer_and_its_copy_list_the_same(rt: HostRuntime) -> Result<(), Fail> {
     Ok(())
 }
 
+/// The type has this name and this word, and is found by its name.
+fn expect_words(rt: &impl Abort, ty: DataType, name: &str, word: &str) -> Result<(), Fail> {
+    assert!(rt; ty.name() == name && ty.word() == word, "of {name}");
+    assert!(rt; DataType::named(name) == Some(ty), "of {name}");
+    Ok(())
+}
+
 #[test]
-fn types_channels_and_origins_have_their_words(rt: HostRuntime) -> Result<(), Fail> {
-    let words = [
-        (DataType::ScalarMat34, "SCALAR_MAT34", "SCALAR_MAT34"),
-        (DataType::Ufixed8Vec4, "UFIXED8_VEC4", "UFIXED8_VEC4"),
-        (DataType::Str, "STRING", "STRING"),
-        (DataType::TypeName, "DATA_TYPE", "DATA_TYPE"),
-        (DataType::Array1D, "ARRAY1D", "array1d"),
-        (DataType::World, "WORLD", "world"),
-    ];
-    for (ty, name, word) in words {
-        assert!(rt; ty.name() == name && ty.word() == word, "of {name}");
-        assert!(rt; DataType::named(name) == Some(ty), "of {name}");
-    }
+fn types_have_their_names_and_words(rt: HostRuntime) -> Result<(), Fail> {
+    expect_words(&rt, DataType::ScalarMat34, "SCALAR_MAT34", "SCALAR_MAT34")?;
+    expect_words(&rt, DataType::Ufixed8Vec4, "UFIXED8_VEC4", "UFIXED8_VEC4")?;
+    expect_words(&rt, DataType::Str, "STRING", "STRING")?;
+    expect_words(&rt, DataType::TypeName, "DATA_TYPE", "DATA_TYPE")?;
+    expect_words(&rt, DataType::Array1D, "ARRAY1D", "array1d")?;
+    expect_words(&rt, DataType::World, "WORLD", "world")?;
     assert!(rt; DataType::named("camera").is_none() && DataType::worded("CAMERA").is_none());
     assert!(rt; DataType::worded("camera") == Some(DataType::Camera));
+    Ok(())
+}
+
+#[test]
+fn channels_and_origins_have_their_words(rt: HostRuntime) -> Result<(), Fail> {
     assert!(rt; Channel::PrimitiveId.name() == "channel.primitiveId");
     assert!(rt; Channel::named("channel.instanceId") == Some(Channel::InstanceId));
     assert!(rt; Channel::named("channel.depth").is_none());

@@ -1,3 +1,4 @@
+pub mod Ids
 pub mod Mat34
 pub mod Root
 pub mod UnitVector

@@ -1,1 +1,3 @@
+pub mod ExampleFacts
 pub mod TableFacts
+pub mod WalkLaws

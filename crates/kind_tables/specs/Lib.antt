@@ -1,3 +1,11 @@
+pub mod Examples
 pub mod Kinds
+pub mod Ranges
 pub mod Ranks
 pub mod Rows
+pub mod SceneObjects
+pub mod Scenes
+pub mod Shapes
+pub mod WalkRanks
+pub mod WalkRefusals
+pub mod Walks

@@ -47,7 +47,7 @@ abbrev vector_row : ℤ → ℤ → ℤ → Row
 vector_row x y z = default_row (ScalarVec3 (x ∷ y ∷ z ∷ []))
 
 -- three unit columns and no translation
-abbrev identity : List ℤ
+abbrev pub identity : List ℤ
 identity = one ∷ pos 0 ∷ pos 0 ∷ pos 0 ∷ one ∷ pos 0 ∷ pos 0 ∷ pos 0 ∷ one ∷ pos 0 ∷ pos 0 ∷ pos 0 ∷ []
 
 -- the parameters that every camera has

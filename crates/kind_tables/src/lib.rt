@@ -3,10 +3,13 @@
 // it was not set. The code and the definitions of all layers above read this one table.
 #![tactic(auto)]
 
+pub mod examples;
 pub mod kinds;
 pub mod rows;
 #[cfg(test)]
 mod tests;
+pub mod walks;
 
 pub use kinds::{Kind, kind_of, rank, subtypes_of};
 pub use rows::{Row, parameters_of, row_of};
+pub use walks::{walks_end, walks_go_down, walks_visit_objects};

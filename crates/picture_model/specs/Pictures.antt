@@ -2,6 +2,7 @@
 use Rattle.std.specs.Prelude.{Option, ℕ, zero, suc, ◌+◌, List, [], ◌++◌}
 use Rattle.std.specs.Int.{to_le_bytes, w32}
 use Rattle.std.specs.Option.{option_and_then, option_map, unwrap_or}
+use Rattle.fx_math.specs.Ids.{no_id}
 use Rattle.fx_math.specs.declared.vectors.Ray.{Ray}
 use Rattle.picture_model.specs.declared.records.Plane.{Plane}
 use Rattle.picture_model.specs.declared.records.Plane.TheVariants.{Color, PrimitiveId, ObjectId, InstanceId}
@@ -20,10 +21,6 @@ ray_at scene x y = camera_ray scene.camera scene.width scene.height x y
 -- the primitive that the ray meets first
 abbrev pub front : List Primitive → Ray → Option Primitive
 front primitives ray = option_and_then (λ h. primitive_at primitives h.place) (nearest ray (placed primitives))
-
--- what an id shows where there is none
-abbrev pub no_id : ℕ
-no_id = 0xFFFF_FFFF
 
 -- an id, lowest byte first, where there may be none
 abbrev pub id_bytes : Option ℕ → List ℕ

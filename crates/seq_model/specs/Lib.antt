@@ -1,0 +1,12 @@
+pub mod Answers
+pub mod Builds
+pub mod Examples
+pub mod Histories
+pub mod Legal
+pub mod Life
+pub mod Pictures
+pub mod Refusals
+pub mod Room
+pub mod State
+pub mod Steps
+pub mod Told
