@@ -1,4 +1,4 @@
--- How often an object is named by entries, before and after one entry is set or taken away.
+-- How often an object is named by values, before and after one entry is set or taken away.
 use Rattle.std.proofs.Common.{◌≡◌, ℕ, ◌+◌, ◌==◌, List, [], ◌∷◌, ◌++◌, Bool, true, false, Option, Some, None, refl, ap, cond, subst, arith}
 use Rattle.std.specs.Prelude.{option_and_then}
 use Rattle.std.specs.BTreeMap.{is_at}
@@ -15,64 +15,65 @@ use Rattle.std.proofs.lemmas.List.Sums.{sum_by-append}
 use Rattle.std.proofs.lemmas.Map.{lookup-none}
 use Rattle.std.proofs.lemmas.Map.Entries.{none_below_head}
 use Rattle.dev_types.specs.declared.values.Value.{Value}
-use Rattle.param_stage.specs.Params.{Entries, ParamMaps, object_of, objects_of, object_at, with_entry, without_entry, times_in, Accounts}
+use Rattle.kind_tables.specs.SceneObjects.{object_in}
+use Rattle.param_stage.specs.Params.{Values, ParamMaps, objects_of, object_under, with_value, without_value, times, Accounts}
 
 -- lists in a row
-times_in-append : (xs ys : List ℕ) (h : ℕ) → times_in (xs ++ ys) h ≡ times_in xs h + times_in ys h
-times_in-append xs ys h = sum_by-append (λ x. cond (x == h) 1 0) xs ys
+times-append : (xs ys : List ℕ) (h : ℕ) → times h (xs ++ ys) ≡ times h xs + times h ys
+times-append xs ys h = sum_by-append (λ x. cond (x == h) 1 0) xs ys
 
 -- one or none in front of a list
-times_in-cons : (o : Option ℕ) (xs : List ℕ) (h : ℕ) → times_in (cons_option o xs) h ≡ times_in (option_to_list o) h + times_in xs h
-times_in-cons None xs h = omega arith
-times_in-cons (Some x) xs h = times_in-append (x ∷ []) xs h
+times-cons : (o : Option ℕ) (xs : List ℕ) (h : ℕ) → times h (cons_option o xs) ≡ times h (option_to_list o) + times h xs
+times-cons None xs h = omega arith
+times-cons (Some x) xs h = times-append (x ∷ []) xs h
 
 -- how often a value that may be there names the object
 abbrev found : Option Value → ℕ → ℕ
-found o h = times_in (option_to_list (option_and_then object_of o)) h
+found o h = times h (option_to_list (option_and_then object_in o))
 
--- how often entries name it
-abbrev total : Entries → ℕ → ℕ
-total entries h = times_in (objects_of entries) h
+-- how often values name it
+abbrev total : Values → ℕ → ℕ
+total values h = times h (objects_of values)
 
-total-cons : (name : List ℕ) (v : Value) (entries : Entries) (h : ℕ) → total ((name, v) ∷ entries) h ≡ found (Some v) h + total entries h
-total-cons name v entries h = times_in-cons (object_of v) (objects_of entries) h
+total-cons : (name : List ℕ) (v : Value) (values : Values) (h : ℕ) → total ((name, v) ∷ values) h ≡ found (Some v) h + total values h
+total-cons name v values h = times-cons (object_in v) (objects_of values) h
 
 -- an entry that is set, by how its name stands to the first of the others
-set_step : (name : List ℕ) (v : Value) (first : List ℕ × Value) (entries : Entries) (h : ℕ) → IsStrictlySortedBy (slice_cmp nat_cmp) (keys_of (first ∷ entries)) → (r : Ordering) → slice_cmp nat_cmp name first.0 ≡ r
-    → total (with_entry entries name v) h + found (lookup (is_at (slice_cmp nat_cmp name)) entries) h ≡ total entries h + found (Some v) h
-    → total (match_ordering r ((name, v) ∷ first ∷ entries) ((first.0, v) ∷ entries) (first ∷ with_entry entries name v)) h + found (cond (is_eq r) (Some first.1) (lookup (is_at (slice_cmp nat_cmp name)) entries)) h ≡ total (first ∷ entries) h + found (Some v) h
-set_step name v first entries h sorted Less is ih =
-    let none : lookup (is_at (slice_cmp nat_cmp name)) entries ≡ None = lookup-none (is_at (slice_cmp nat_cmp name)) entries (none_below_head nat_list_cmp_total name first entries sorted is).1 in
-    omega (arith, total-cons name v (first ∷ entries) h, ap (λ o. found o h) none)
-set_step name v first entries h sorted Equal is ih = omega (arith, total-cons first.0 v entries h, total-cons first.0 first.1 entries h)
-set_step name v first entries h sorted Greater is ih = omega (arith, total-cons first.0 first.1 (with_entry entries name v) h, total-cons first.0 first.1 entries h, ih)
+set_step : (name : List ℕ) (v : Value) (first : List ℕ × Value) (values : Values) (h : ℕ) → IsStrictlySortedBy (slice_cmp nat_cmp) (keys_of (first ∷ values)) → (r : Ordering) → slice_cmp nat_cmp name first.0 ≡ r
+    → total (with_value name v values) h + found (lookup (is_at (slice_cmp nat_cmp name)) values) h ≡ total values h + found (Some v) h
+    → total (match_ordering r ((name, v) ∷ first ∷ values) ((first.0, v) ∷ values) (first ∷ with_value name v values)) h + found (cond (is_eq r) (Some first.1) (lookup (is_at (slice_cmp nat_cmp name)) values)) h ≡ total (first ∷ values) h + found (Some v) h
+set_step name v first values h sorted Less is ih =
+    let none : lookup (is_at (slice_cmp nat_cmp name)) values ≡ None = lookup-none (is_at (slice_cmp nat_cmp name)) values (none_below_head nat_list_cmp_total name first values sorted is).1 in
+    omega (arith, total-cons name v (first ∷ values) h, ap (λ o. found o h) none)
+set_step name v first values h sorted Equal is ih = omega (arith, total-cons first.0 v values h, total-cons first.0 first.1 values h)
+set_step name v first values h sorted Greater is ih = omega (arith, total-cons first.0 first.1 (with_value name v values) h, total-cons first.0 first.1 values h, ih)
 
 -- an entry that is set names what its value names, and what it named is gone
-total-with : (entries : Entries) (name : List ℕ) (v : Value) (h : ℕ) → IsStrictlySortedBy (slice_cmp nat_cmp) (keys_of entries) → total (with_entry entries name v) h + times_in (object_at entries name) h ≡ total entries h + found (Some v) h
+total-with : (values : Values) (name : List ℕ) (v : Value) (h : ℕ) → IsStrictlySortedBy (slice_cmp nat_cmp) (keys_of values) → total (with_value name v values) h + times h (object_under name values) ≡ total values h + found (Some v) h
 unfolding IsStrictlySortedBy
 total-with [] name v h sorted = omega (arith, total-cons name v [] h)
-total-with (first ∷ entries) name v h sorted = set_step name v first entries h sorted (slice_cmp nat_cmp name first.0) refl (total-with entries name v h sorted.1)
+total-with (first ∷ values) name v h sorted = set_step name v first values h sorted (slice_cmp nat_cmp name first.0) refl (total-with values name v h sorted.1)
 
 -- an entry that is taken away
-take_step : (test : List ℕ → Bool) (first : List ℕ × Value) (entries : Entries) (h : ℕ) (b : Bool) → total (remove_entry test entries) h + found (lookup test entries) h ≡ total entries h
-    → total (cond b entries (first ∷ remove_entry test entries)) h + found (cond b (Some first.1) (lookup test entries)) h ≡ total (first ∷ entries) h
-take_step test first entries h true ih = omega (arith, total-cons first.0 first.1 entries h)
-take_step test first entries h false ih = omega (arith, total-cons first.0 first.1 (remove_entry test entries) h, total-cons first.0 first.1 entries h, ih)
+take_step : (test : List ℕ → Bool) (first : List ℕ × Value) (values : Values) (h : ℕ) (b : Bool) → total (remove_entry test values) h + found (lookup test values) h ≡ total values h
+    → total (cond b values (first ∷ remove_entry test values)) h + found (cond b (Some first.1) (lookup test values)) h ≡ total (first ∷ values) h
+take_step test first values h true ih = omega (arith, total-cons first.0 first.1 values h)
+take_step test first values h false ih = omega (arith, total-cons first.0 first.1 (remove_entry test values) h, total-cons first.0 first.1 values h, ih)
 
-total-remove_entry : (test : List ℕ → Bool) (entries : Entries) (h : ℕ) → total (remove_entry test entries) h + found (lookup test entries) h ≡ total entries h
+total-remove_entry : (test : List ℕ → Bool) (values : Values) (h : ℕ) → total (remove_entry test values) h + found (lookup test values) h ≡ total values h
 total-remove_entry test [] h = omega arith
-total-remove_entry test (first ∷ entries) h = take_step test first entries h (test first.0) (total-remove_entry test entries h)
+total-remove_entry test (first ∷ values) h = take_step test first values h (test first.0) (total-remove_entry test values h)
 
 -- each call accounts for what it tells
-pub set_accounts : (old new : ParamMaps) (added gone : List ℕ) (name : List ℕ) (v : Value) (staged : Entries) → IsStrictlySortedBy (slice_cmp nat_cmp) (keys_of staged) → staged ≡ old.staged
-    → new ≡ record old { staged = with_entry old.staged name v } → added ≡ option_to_list (object_of v) → gone ≡ object_at old.staged name → Accounts old new added gone
+pub set_accounts : (old new : ParamMaps) (added gone : List ℕ) (name : List ℕ) (v : Value) (staged : Values) → IsStrictlySortedBy (slice_cmp nat_cmp) (keys_of staged) → staged ≡ old.staged
+    → new ≡ record old { staged = with_value name v old.staged } → added ≡ option_to_list (object_in v) → gone ≡ object_under name old.staged → Accounts old new added gone
 set_accounts old new added gone name v staged ordered same maps told lost h =
-    let sorted : IsStrictlySortedBy (slice_cmp nat_cmp) (keys_of old.staged) = subst (λ (es : Entries). IsStrictlySortedBy (slice_cmp nat_cmp) (keys_of es)) same ordered in
-    rw (maps, told, lost) (omega (arith, times_in-append (objects_of (with_entry old.staged name v)) (objects_of old.committed) h, times_in-append (objects_of old.staged) (objects_of old.committed) h, total-with old.staged name v h sorted))
+    let sorted : IsStrictlySortedBy (slice_cmp nat_cmp) (keys_of old.staged) = subst (λ (es : Values). IsStrictlySortedBy (slice_cmp nat_cmp) (keys_of es)) same ordered in
+    rw (maps, told, lost) (omega (arith, times-append (objects_of (with_value name v old.staged)) (objects_of old.committed) h, times-append (objects_of old.staged) (objects_of old.committed) h, total-with old.staged name v h sorted))
 
-pub unset_accounts : (old new : ParamMaps) (added gone : List ℕ) (name : List ℕ) → new ≡ record old { staged = without_entry old.staged name } → added ≡ [] → gone ≡ object_at old.staged name → Accounts old new added gone
+pub unset_accounts : (old new : ParamMaps) (added gone : List ℕ) (name : List ℕ) → new ≡ record old { staged = without_value name old.staged } → added ≡ [] → gone ≡ object_under name old.staged → Accounts old new added gone
 unset_accounts old new added gone name maps told lost h =
-    rw (maps, told, lost) (omega (arith, times_in-append (objects_of (without_entry old.staged name)) (objects_of old.committed) h, times_in-append (objects_of old.staged) (objects_of old.committed) h, total-remove_entry (is_at (slice_cmp nat_cmp name)) old.staged h))
+    rw (maps, told, lost) (omega (arith, times-append (objects_of (without_value name old.staged)) (objects_of old.committed) h, times-append (objects_of old.staged) (objects_of old.committed) h, total-remove_entry (is_at (slice_cmp nat_cmp name)) old.staged h))
 
 pub commit_accounts : (old new : ParamMaps) (added gone : List ℕ) → new ≡ record old { committed = old.staged } → added ≡ objects_of old.staged → gone ≡ objects_of old.committed → Accounts old new added gone
-commit_accounts old new added gone maps told lost h = rw (maps, told, lost) (omega (arith, times_in-append (objects_of old.staged) (objects_of old.staged) h, times_in-append (objects_of old.staged) (objects_of old.committed) h))
+commit_accounts old new added gone maps told lost h = rw (maps, told, lost) (omega (arith, times-append (objects_of old.staged) (objects_of old.staged) h, times-append (objects_of old.staged) (objects_of old.committed) h))

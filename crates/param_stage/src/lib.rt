@@ -3,8 +3,8 @@
 // counts the names of each object can follow.
 #![tactic(auto)]
 
-mod entries;
 mod handles;
+mod objects;
 mod params;
 
 pub use handles::{HandleList, Named};

@@ -1,10 +1,11 @@
 //! The two maps.
 ghost use Rattle.std.specs.Prelude.{◌≡◌, [], ◌<◌, Some, IfOk, OnOk, OnErr, length, slice_get, option_copied};
 ghost use Rattle.std.specs.Option.{option_to_list};
-ghost use Rattle.param_stage.specs.Params.{entry_at, with_entry, without_entry, object_of, object_at, objects_of, named, Accounts};
+ghost use Rattle.kind_tables.specs.SceneObjects.{object_in, value_named};
+ghost use Rattle.param_stage.specs.Params.{with_value, without_value, object_under, objects_of, named, Accounts};
 
-use crate::entries;
 use crate::handles::{HandleList, Named};
+use crate::objects::{self, Values};
 use dev_types::{Handle, Name, NoMemory, Value};
 use std::alloc::{AllocError, Global};
 use std::collections::BTreeMap;
@@ -14,8 +15,8 @@ use std::marker::Model;
 /// Specification, object parameters and commits).
 #[derive(Drop)]
 pub struct Params {
-    staged: BTreeMap<Name, Value>,
-    committed: BTreeMap<Name, Value>,
+    staged: Values,
+    committed: Values,
 }
 
 impl Model for Params {
@@ -47,17 +48,17 @@ impl Params {
     /// `NoMemory`; all is then as it was.
     pub fn set(&mut self, alloc: Global, name: &Name, v: &Value) -> Result<Named, NoMemory>
         ensures maps { OnOk result (self.new
-            ≡ record self.old { staged = with_entry self.old.staged name.now v.now }) }
+            ≡ record self.old { staged = with_value name.now v.now self.old.staged }) }
 
         // What the value names is added, and what the value before it named is gone.
-        ensures added { IfOk result (λ told. told.added ≡ option_to_list (object_of v.now)) }
-        ensures gone { IfOk result (λ told. told.gone ≡ object_at self.old.staged name.now) }
+        ensures added { IfOk result (λ told. told.added ≡ option_to_list (object_in v.now)) }
+        ensures gone { IfOk result (λ told. told.gone ≡ object_under name.now self.old.staged) }
         ensures counts { IfOk result (λ told. Accounts self.old self.new told.added told.gone) }
         ensures err { OnErr result (self.new ≡ self.old) }
     {
         let told = Named {
-            added: entries::one_or_none(alloc, entries::object_of(v))?,
-            gone: entries::object_at(alloc, &self.staged, name)?,
+            added: objects::one_or_none(alloc, objects::object_in(v))?,
+            gone: objects::object_under(alloc, name, &self.staged)?,
         };
         self.staged
             .insert(name.copied(), v.copied())
@@ -71,13 +72,13 @@ impl Params {
     /// `NoMemory`; all is then as it was.
     pub fn unset(&mut self, alloc: Global, name: &Name) -> Result<Named, NoMemory>
         ensures maps { OnOk result (self.new
-            ≡ record self.old { staged = without_entry self.old.staged name.now }) }
+            ≡ record self.old { staged = without_value name.now self.old.staged }) }
         ensures added { IfOk result (λ told. told.added ≡ []) }
-        ensures gone { IfOk result (λ told. told.gone ≡ object_at self.old.staged name.now) }
+        ensures gone { IfOk result (λ told. told.gone ≡ object_under name.now self.old.staged) }
         ensures counts { IfOk result (λ told. Accounts self.old self.new told.added told.gone) }
         ensures err { OnErr result (self.new ≡ self.old) }
     {
-        let gone = entries::object_at(alloc, &self.staged, name)?;
+        let gone = objects::object_under(alloc, name, &self.staged)?;
         self.staged.remove(name);
         Ok(Named {
             added: HandleList::of(Vec::new(alloc)),
@@ -96,7 +97,7 @@ impl Params {
         ensures counts { IfOk result (λ told. Accounts self.old self.new told.added told.gone) }
         ensures err { OnErr result (self.new ≡ self.old) }
     {
-        let gone = entries::objects_of(alloc, &self.staged)?;
+        let gone = objects::objects_of(alloc, &self.staged)?;
         self.staged.clear();
         Ok(Named {
             added: HandleList::of(Vec::new(alloc)),
@@ -117,23 +118,23 @@ impl Params {
         ensures err { OnErr result (self.new ≡ self.old) }
     {
         let told = Named {
-            added: entries::objects_of(alloc, &self.staged)?,
-            gone: entries::objects_of(alloc, &self.committed)?,
+            added: objects::objects_of(alloc, &self.staged)?,
+            gone: objects::objects_of(alloc, &self.committed)?,
         };
-        self.committed = entries::copied(&self.staged)?;
+        self.committed = objects::copied(&self.staged)?;
         Ok(told)
     }
 
     /// The committed value under the name; `None` exactly where there is none.
     pub fn committed(&self, name: &Name) -> Option<&Value>
-        ensures { option_copied result ≡ entry_at self.now.committed name.now }
+        ensures { option_copied result ≡ value_named name.now self.now.committed }
     {
         self.committed.get(name)
     }
 
     /// The staged value under the name; `None` exactly where there is none.
     pub fn staged(&self, name: &Name) -> Option<&Value>
-        ensures { option_copied result ≡ entry_at self.now.staged name.now }
+        ensures { option_copied result ≡ value_named name.now self.now.staged }
     {
         self.staged.get(name)
     }
@@ -142,7 +143,7 @@ impl Params {
     pub fn named_len(&self) -> u64
         ensures { result ≡ length (named self.now) }
     {
-        entries::objects_len(&self.staged) as u64 + entries::objects_len(&self.committed) as u64
+        objects::objects_len(&self.staged) as u64 + objects::objects_len(&self.committed) as u64
     }
 
     /// The object that is named by entry `i` of those that name one, counted from 0: the staged ones first,
@@ -151,10 +152,10 @@ impl Params {
         requires { i < length (named self.now) }
         ensures { slice_get (named self.now) i ≡ Some result }
     {
-        let staged = entries::objects_len(&self.staged);
+        let staged = objects::objects_len(&self.staged);
         let found = match (i as usize).checked_sub(staged) {
-            None => entries::nth_object(&self.staged, i as usize),
-            Some(later) => entries::nth_object(&self.committed, later),
+            None => objects::nth_object(&self.staged, i as usize),
+            Some(later) => objects::nth_object(&self.committed, later),
         };
         match found {
             Some(handle) => handle,
