@@ -1,5 +1,5 @@
 -- Binary PPM images of frames, whose pixels have four bytes and stand by rows from the lowest up.
-use Rattle.std.specs.Prelude.{◌≡◌, ℕ, zero, suc, ◌*◌, List, [], ◌∷◌, ◌++◌, take, drop, Bool, true, false, codes, decimal, if◌then◌else◌}
+use Rattle.std.specs.Prelude.{◌≡◌, ℕ, zero, suc, ◌*◌, List, [], ◌∷◌, ◌++◌, length, take, drop, Bool, codes, decimal, if◌then◌else◌}
 
 -- the three bytes of each pixel: of a colour red, green and blue, of an id its lower three bytes from the highest down
 abbrev pub shown : Bool → List ℕ → List ℕ
@@ -23,6 +23,6 @@ header w h = codes "P6\n" ++ (decimal w ++ (codes " " ++ (decimal h ++ codes "\n
 abbrev pub ppm : Bool → ℕ → ℕ → List ℕ → List ℕ
 ppm color w h pixels = header w h ++ from_top color w pixels h
 
--- bytes were added at the end, and none changed
+-- nothing was changed up to the old end
 abbrev pub KeepsFront : List ℕ → List ℕ → Type 0
-KeepsFront old new = (added : List ℕ) × (new ≡ old ++ added)
+KeepsFront old new = take (length old) new ≡ old

@@ -42,7 +42,7 @@ fn push_image(alloc: Global, frame: &MappedBytes, out: &mut Vec<u8>) -> Result<(
     requires { length frame.now.rows ≡ 4 * frame.now.w * frame.now.h }
     ensures ok { OnOk result (out.new.items
         ≡ out.old.items ++ ppm frame.now.color frame.now.w frame.now.h frame.now.rows) }
-    ensures err { OnErr result (KeepsFront out.old.items out.new.items) }
+    ensures front { KeepsFront out.old.items out.new.items }
 {
     let (w, h) = (frame.w, frame.h);
     let header = format!(in alloc; "P6\n{w} {h}\n255\n")?;
@@ -54,7 +54,7 @@ fn push_rows(frame: &MappedBytes, out: &mut Vec<u8>) -> Result<(), AllocError>
     requires { length frame.now.rows ≡ 4 * frame.now.w * frame.now.h }
     ensures ok { OnOk result (out.new.items
         ≡ out.old.items ++ from_top frame.now.color frame.now.w frame.now.rows frame.now.h) }
-    ensures err { OnErr result (KeepsFront out.old.items out.new.items) }
+    ensures front { KeepsFront out.old.items out.new.items }
 {
     let mut y = frame.h as usize;
     'rows: while y > 0 {
@@ -69,7 +69,7 @@ fn push_row(frame: &MappedBytes, y: usize, out: &mut Vec<u8>) -> Result<(), Allo
     requires row { y < frame.now.h }
     ensures ok { OnOk result (out.new.items
         ≡ out.old.items ++ shown frame.now.color (row_of frame.now.w frame.now.rows y)) }
-    ensures err { OnErr result (KeepsFront out.old.items out.new.items) }
+    ensures front { KeepsFront out.old.items out.new.items }
 {
     let row = 4 * frame.w as usize;
     let pixels = &frame.rows.as_slice()[row * y..];
@@ -78,7 +78,7 @@ fn push_row(frame: &MappedBytes, y: usize, out: &mut Vec<u8>) -> Result<(), Allo
 
 fn push_pixels(color: bool, mut pixels: &[u8], out: &mut Vec<u8>) -> Result<(), AllocError>
     ensures ok { OnOk result (out.new.items ≡ out.old.items ++ shown color pixels.entry.now) }
-    ensures err { OnErr result (KeepsFront out.old.items out.new.items) }
+    ensures front { KeepsFront out.old.items out.new.items }
 {
     'pixels: while let [a, b, c, _, rest @ ..] = pixels {
         let bytes = if color { [*a, *b, *c] } else { [*c, *b, *a] };

@@ -1,5 +1,6 @@
-use Rattle.std.proofs.Common.{◌≡◌, ℕ, suc, ◌-◌, ◌<◌, List, ◌++◌, Bool, arith, refl, subst, sym, ap, ◌∙◌, append_assoc}
-use Rattle.ppm_out.specs.Ppm.{from_top, row_of, shown, KeepsFront}
+use Rattle.std.proofs.Common.{◌≡◌, ℕ, suc, ◌-◌, List, ◌++◌, Bool, arith, refl, subst, sym, ap, ◌∙◌, append_assoc}
+use Rattle.ppm_out.specs.Ppm.{from_top, row_of, shown}
+use Rattle.ppm_out.proofs.Fronts.{front_twice}
 use Rattle.ppm_out.proofs.images.push_rows.Goals as goal
 
 -- the rows from the top begin with the highest
@@ -13,9 +14,6 @@ added-first : (out new first rest left all : List ℕ) → new ≡ out ++ first 
 added-first out new first rest left all grown split whole =
     ap (λ l. l ++ rest) grown ∙ append_assoc out first rest ∙ ap (λ l. out ++ l) (sym split) ∙ whole
 
-keeps-more : (old out new more : List ℕ) → KeepsFront old out → new ≡ out ++ more → KeepsFront old new
-keeps-more old out new more (added, kept) grown = (added ++ more, grown ∙ ap (λ l. l ++ more) kept ∙ append_assoc old added more)
-
 pub rows-preserved : goal.rows-preserved
 rows-preserved c =
     let frame = c.args.frame.now in
@@ -24,5 +22,5 @@ rows-preserved c =
     record {
       below = omega (arith, c.rows.invariant.below);
       whole = added-first _ _ _ _ _ _ grown highest c.rows.invariant.whole;
-      kept = keeps-more _ _ _ _ c.rows.invariant.kept grown;
+      kept = front_twice _ _ _ c.rows.invariant.kept c.in_ok-push_row.ensures.front;
     }

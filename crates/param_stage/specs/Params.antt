@@ -1,0 +1,47 @@
+-- The parameters of an object: what is set, what was committed, and the objects that these name (ANARI 1.0 Specification, object
+-- parameters and commit).
+use Rattle.std.specs.Prelude.{◌≡◌, ℕ, ◌+◌, ◌==◌, List, ◌++◌, option_and_then, count_by}
+use Rattle.std.specs.BTreeMap.{insert_entry, is_at}
+use Rattle.std.specs.Cmp.Lexicographic.{slice_cmp}
+use Rattle.std.specs.List.{filter_map}
+use Rattle.std.specs.Map.{remove_entry}
+use Rattle.std.specs.Option.{option_to_list}
+use Rattle.std.specs.Ordering.{nat_cmp}
+use Rattle.dev_types.specs.declared.values.Value.{Value}
+use Rattle.kind_tables.specs.SceneObjects.{object_in, value_named}
+
+-- values by name, in the order of the names' bytes
+abbrev pub Values : Type 0
+Values = List (List ℕ × Value)
+
+-- what is set, and what was committed
+pub record ParamMaps : Type 0 where
+  pub staged : Values
+  pub committed : Values
+
+-- the values with this one under a name, and with none
+abbrev pub with_value : List ℕ → Value → Values → Values
+with_value name v values = insert_entry (slice_cmp nat_cmp) values name v
+
+abbrev pub without_value : List ℕ → Values → Values
+without_value name values = remove_entry (is_at (slice_cmp nat_cmp name)) values
+
+-- the objects that the values name, once for each and in the order of the values' names
+abbrev pub objects_of : Values → List ℕ
+objects_of values = filter_map (λ entry. object_in entry.1) values
+
+-- the object that the value under a name names: one or none
+abbrev pub object_under : List ℕ → Values → List ℕ
+object_under name values = option_to_list (option_and_then object_in (value_named name values))
+
+-- the objects that all parameters name, the staged ones before the committed ones
+abbrev pub named : ParamMaps → List ℕ
+named maps = objects_of maps.staged ++ objects_of maps.committed
+
+-- how often a list has a number
+abbrev pub times : ℕ → List ℕ → ℕ
+times h list = count_by (λ k. k == h) list
+
+-- of each object, what is named and what is gone are what was named and what was added
+abbrev pub Accounts : ParamMaps → ParamMaps → List ℕ → List ℕ → Type 0
+Accounts old new added gone = (h : ℕ) → times h (named new) + times h gone ≡ times h (named old) + times h added

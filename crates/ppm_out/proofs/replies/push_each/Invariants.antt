@@ -1,0 +1,11 @@
+use Rattle.std.proofs.Common.{◌≡◌, ◌++◌, take}
+use Rattle.ppm_out.specs.Lines.{continued}
+use Rattle.ppm_out.specs.Ppm.{KeepsFront}
+use Rattle.ppm_out.proofs.replies.push_each.Given as goal
+
+-- the first i names are written
+abbrev pub invariant-loop-i : goal.invariant-loop-i
+invariant-loop-i l = record {
+  written : l.out.items ≡ l.initial.out.items ++ continued (take l.i l.names);
+  kept : KeepsFront l.initial.out.items l.out.items;
+}
