@@ -1,6 +1,7 @@
 pub mod Answers
 pub mod Builds
 pub mod Examples
+pub mod Extensions
 pub mod Histories
 pub mod Legal
 pub mod Life

@@ -1,15 +1,24 @@
 //! What holds of every history: each law is the contract of a function that does nothing.
-ghost use Rattle.std.specs.Prelude.{◌≡◌, ℕ, ◌≤◌, ◌<◌, All, length, None, ◌++◌, ◌∷◌, [], Some};
+ghost use Rattle.std.specs.Prelude.{List, IsTrue, Bool, ◌≡◌, ℕ, ◌≤◌, ◌<◌, All, length, None, ◌++◌, ◌∷◌, [], Some};
 ghost use Rattle.std.specs.BTreeMap.{is_at};
 ghost use Rattle.std.specs.List.Sorted.{IsStrictlyIncreasing};
 ghost use Rattle.std.specs.Map.{keys_of, lookup};
 ghost use Rattle.std.specs.Ordering.{nat_cmp};
+ghost use Rattle.dev_types.specs.declared.data_types.DataType.{DataType};
+ghost use Rattle.dev_types.specs.declared.refusals.Refused.{Refused};
 ghost use Rattle.kind_tables.specs.Walks.{visited, walk};
+ghost use Rattle.seq_model.specs.Extensions.{let_follow, readings_of};
 ghost use Rattle.seq_model.specs.Histories.{History, frame_at};
+ghost use Rattle.seq_model.specs.Legal.{IsNext, Legal};
 ghost use Rattle.seq_model.specs.Pictures.{state_before};
 ghost use Rattle.seq_model.specs.State.{object_at, scene_objects};
 ghost use Rattle.seq_model.specs.Steps.{after, step, swept};
+ghost use Rattle.seq_model.specs.declared.calls.Call.{Call};
+ghost use Rattle.seq_model.specs.declared.calls.Call.TheVariants.{FrameReady, GetProperty, ObjectInfo, ParameterInfo, Subtypes};
 ghost use Rattle.seq_model.specs.declared.calls.Entry.{Entry};
+ghost use Rattle.seq_model.specs.declared.calls.Entry.TheVariants.{Called};
+ghost use Rattle.seq_model.specs.declared.calls.Reply.{Reply};
+ghost use Rattle.seq_model.specs.declared.calls.Reply.TheVariants as reply;
 
 /// One more entry is one more step.
 #[tactic(auto, using(crate::proofs::Afters::after_more))]
@@ -58,4 +67,41 @@ pub fn reach_is_the_walk()
 #[tactic(auto, using(crate::proofs::Sweeps::sweeps_once))]
 pub fn sweeping_twice_is_sweeping_once()
     ensures { (history : History) → swept history (after history).reached (after history).state ≡ (after history).state }
+{}
+
+/// A call that was refused changes nothing.
+#[tactic(auto, using(crate::proofs::Stills::refused_changes_nothing))]
+pub fn refused_calls_change_nothing()
+    ensures { (history : History) (actor : ℕ) (call : Call) (refused : Refused) →
+        (after (history ++ Called actor call (reply.Denied refused) ∷ [])).state ≡ (after history).state }
+{}
+
+/// A question whether a frame is ready changes nothing, and no query does.
+#[tactic(auto, using(crate::proofs::Stills::ready_changes_nothing, crate::proofs::Stills::property_changes_nothing, crate::proofs::Stills::subtypes_changes_nothing, crate::proofs::Stills::object_info_changes_nothing, crate::proofs::Stills::parameter_info_changes_nothing))]
+pub fn questions_change_nothing()
+    ensures ready { (history : History) (actor h : ℕ) (wait : Bool) (r : Reply) →
+        (after (history ++ Called actor (FrameReady h wait) r ∷ [])).state ≡ (after history).state }
+    ensures property { (history : History) (actor h : ℕ) (name : List ℕ) (r : Reply) →
+        (after (history ++ Called actor (GetProperty h name) r ∷ [])).state ≡ (after history).state }
+    ensures subtypes { (history : History) (actor : ℕ) (t : DataType) (r : Reply) →
+        (after (history ++ Called actor (Subtypes t) r ∷ [])).state ≡ (after history).state }
+    ensures object_info { (history : History) (actor : ℕ) (t : DataType) (subtype : List ℕ) (r : Reply) →
+        (after (history ++ Called actor (ObjectInfo t subtype) r ∷ [])).state ≡ (after history).state }
+    ensures parameter_info { (history : History) (actor : ℕ) (t : DataType) (subtype name : List ℕ) (r : Reply) →
+        (after (history ++ Called actor (ParameterInfo t subtype name) r ∷ [])).state ≡ (after history).state }
+{}
+
+/// What a legal history begins with is legal.
+#[tactic(auto, using(crate::proofs::Prefixes::prefix_is_legal))]
+pub fn prefixes_are_legal()
+    ensures { (history further : History) → Legal (history ++ further) → Legal history }
+{}
+
+/// One more entry may stand behind a legal history just where it is in its place, no reading falls, and every entry lets it follow.
+#[tactic(auto, using(crate::proofs::Prefixes::extension_is_legal, crate::proofs::Prefixes::last_is_next, crate::proofs::Prefixes::last_was_let_follow))]
+pub fn legal_histories_go_on()
+    ensures more { (history : History) (e : Entry) → Legal history → IsNext (after history) (readings_of history) e [] → IsTrue (let_follow history e) →
+        Legal (history ++ e ∷ []) }
+    ensures next { (history : History) (e : Entry) → Legal (history ++ e ∷ []) → IsNext (after history) (readings_of history) e [] }
+    ensures leave { (history : History) (e : Entry) → Legal (history ++ e ∷ []) → IsTrue (let_follow history e) }
 {}
