@@ -72,7 +72,7 @@ flown_from place e s reached early fresh flown k o u (Was p there kind takes (St
     subst (λ u. is_reached_by (with_reach place (rendered e) s reached) u k ≡ true) same (started_reaches place k k p (rendered e) s reached is fresh there)
 flown_from place e s reached early fresh flown k o u (Was p there kind takes (Ended v entry was phase)) flies = let none : None ≡ Some u = sym (ap ticket_in phase) ∙ flies in absurd cc
 
-place_after : (history : History) → next_place (after history) ≡ length history + 1
+pub place_after : (history : History) → next_place (after history) ≡ length history + 1
 place_after history = ap (λ (h : History). length h + 1) (seen_is_history history)
 
 pub flown_changed : (history : History) (e : Entry) → IsFlown (after history).reached (after history).state → IsFlown (step (after history) e).reached (changed (after history) e)

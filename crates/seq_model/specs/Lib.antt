@@ -9,4 +9,5 @@ pub mod Pictures
 pub mod Refusals
 pub mod State
 pub mod Steps
+pub mod Tickets
 pub mod Told

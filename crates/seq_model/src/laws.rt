@@ -1,5 +1,5 @@
 //! What holds of every history: each law is the contract of a function that does nothing.
-ghost use Rattle.std.specs.Prelude.{List, IsTrue, Bool, ◌≡◌, ℕ, ◌≤◌, ◌<◌, All, length, None, ◌++◌, ◌∷◌, [], Some};
+ghost use Rattle.std.specs.Prelude.{◌+◌, List, IsTrue, Bool, ◌≡◌, ℕ, ◌≤◌, ◌<◌, All, length, None, ◌++◌, ◌∷◌, [], Some};
 ghost use Rattle.std.specs.BTreeMap.{is_at};
 ghost use Rattle.std.specs.List.Sorted.{IsStrictlyIncreasing};
 ghost use Rattle.std.specs.Map.{keys_of, lookup};
@@ -10,13 +10,15 @@ ghost use Rattle.kind_tables.specs.Walks.{visited, walk};
 ghost use Rattle.seq_model.specs.Extensions.{let_follow, readings_of};
 ghost use Rattle.seq_model.specs.Histories.{History, frame_at};
 ghost use Rattle.seq_model.specs.Legal.{IsNext, Legal};
+ghost use Rattle.seq_model.specs.Life.{has};
 ghost use Rattle.seq_model.specs.Pictures.{state_before};
-ghost use Rattle.seq_model.specs.State.{object_at, scene_objects};
+ghost use Rattle.seq_model.specs.State.{Object, object_at, scene_objects};
 ghost use Rattle.seq_model.specs.Steps.{after, step, swept};
+ghost use Rattle.seq_model.specs.Tickets.{ticket_of};
 ghost use Rattle.seq_model.specs.declared.calls.Call.{Call};
-ghost use Rattle.seq_model.specs.declared.calls.Call.TheVariants.{FrameReady, GetProperty, ObjectInfo, ParameterInfo, Subtypes};
+ghost use Rattle.seq_model.specs.declared.calls.Call.TheVariants.{DiscardFrame, FrameReady, GetProperty, ObjectInfo, ParameterInfo, Subtypes};
 ghost use Rattle.seq_model.specs.declared.calls.Entry.{Entry};
-ghost use Rattle.seq_model.specs.declared.calls.Entry.TheVariants.{Called};
+ghost use Rattle.seq_model.specs.declared.calls.Entry.TheVariants.{Called, Finished};
 ghost use Rattle.seq_model.specs.declared.calls.Reply.{Reply};
 ghost use Rattle.seq_model.specs.declared.calls.Reply.TheVariants as reply;
 
@@ -104,4 +106,37 @@ pub fn legal_histories_go_on()
         Legal (history ++ e ∷ []) }
     ensures next { (history : History) (e : Entry) → Legal (history ++ e ∷ []) → IsNext (after history) (readings_of history) e [] }
     ensures leave { (history : History) (e : Entry) → Legal (history ++ e ∷ []) → IsTrue (let_follow history e) }
+{}
+
+/// The ticket that a frame shows is the place of its render.
+#[tactic(auto, using(crate::proofs::Flights::own_tickets))]
+pub fn tickets_are_renders()
+    ensures { (history : History) (k u : ℕ) (o : Object) → object_at (after history).state k ≡ Some o → ticket_of o.phase ≡ Some u → frame_at history u ≡ Some k }
+{}
+
+/// A flight that was stopped never ends in a picture.
+#[tactic(auto, using(crate::proofs::Flights::stopped_never_finishes))]
+pub fn stopped_flights_never_finish()
+    ensures { (history further : History) (u : ℕ) → IsTrue (has u (after history).state.stopped) → Legal ((history ++ further) ++ Finished u ∷ []) → ⊥ }
+{}
+
+/// The picture that a frame showed, or waited for, when it was discarded is shown by no frame any more.
+#[tactic(auto, using(crate::proofs::Flights::discarded_is_never_mapped))]
+pub fn discarded_pictures_are_gone()
+    ensures { (history further : History) (actor h u : ℕ) (o : Object) → object_at (after history).state h ≡ Some o → ticket_of o.phase ≡ Some u →
+        (k : ℕ) (p : Object) → object_at (after ((history ++ Called actor (DiscardFrame h) reply.Done ∷ []) ++ further)).state k ≡ Some p → ticket_of p.phase ≡ Some u → ⊥ }
+{}
+
+/// A creation makes the next handle.
+#[tactic(auto, using(crate::proofs::Creations::made_handle))]
+pub fn creations_make_the_next_handle()
+    ensures { (history : History) (actor h : ℕ) (call : Call) → Legal (history ++ Called actor call (reply.Made h) ∷ []) →
+        (h ≡ (after history).state.next) × ((after (history ++ Called actor call (reply.Made h) ∷ [])).state.next ≡ h + 1) }
+{}
+
+/// No handle is made twice.
+#[tactic(auto, using(crate::proofs::Creations::made_handles_rise))]
+pub fn no_handle_is_made_twice()
+    ensures { (first second : History) (actor other h k : ℕ) (call further : Call) →
+        Legal (((first ++ Called actor call (reply.Made h) ∷ []) ++ second) ++ Called other further (reply.Made k) ∷ []) → h < k }
 {}
