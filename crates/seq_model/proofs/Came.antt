@@ -148,7 +148,7 @@ step_back past e k o rising found =
     (swept_was (step past e) (changed past e) k o (change_rises (next_place past) e past.state (changed past e) changes rising).0 (ap (λ s. object_at s k) (sym (step_state past e)) ∙ found)).0
 
 -- a handle that was used, with nothing at it, stays so
-stays_gone : (past : Past) (e : Entry) (h : ℕ) → IsRising past.state → h < past.state.next → object_at past.state h ≡ None → object_at (step past e).state h ≡ None
+pub stays_gone : (past : Past) (e : Entry) (h : ℕ) → IsRising past.state → h < past.state.next → object_at past.state h ≡ None → object_at (step past e).state h ≡ None
 stays_gone past e h rising used gone = by (object_at (step past e).state h) refl
   where
     from : (o : Object) → ComesFrom (next_place past) e past.state h o → ⊥

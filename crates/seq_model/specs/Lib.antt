@@ -1,5 +1,6 @@
 pub mod Answers
 pub mod Builds
+pub mod Ends
 pub mod Examples
 pub mod Extensions
 pub mod Histories

@@ -1,5 +1,5 @@
 //! What holds of every history: each law is the contract of a function that does nothing.
-ghost use Rattle.std.specs.Prelude.{◌+◌, List, IsTrue, Bool, ◌≡◌, ℕ, ◌≤◌, ◌<◌, All, length, None, ◌++◌, ◌∷◌, [], Some};
+ghost use Rattle.std.specs.Prelude.{◌+◌, count_by, List, IsTrue, Bool, ◌≡◌, ℕ, ◌≤◌, ◌<◌, All, length, None, ◌++◌, ◌∷◌, [], Some};
 ghost use Rattle.std.specs.BTreeMap.{is_at};
 ghost use Rattle.std.specs.List.Sorted.{IsStrictlyIncreasing};
 ghost use Rattle.std.specs.Map.{keys_of, lookup};
@@ -7,6 +7,7 @@ ghost use Rattle.std.specs.Ordering.{nat_cmp};
 ghost use Rattle.dev_types.specs.declared.data_types.DataType.{DataType};
 ghost use Rattle.dev_types.specs.declared.refusals.Refused.{Refused};
 ghost use Rattle.kind_tables.specs.Walks.{visited, walk};
+ghost use Rattle.seq_model.specs.Ends.{is_capturing, is_deleting};
 ghost use Rattle.seq_model.specs.Extensions.{let_follow, readings_of};
 ghost use Rattle.seq_model.specs.Histories.{History, frame_at};
 ghost use Rattle.seq_model.specs.Legal.{IsNext, Legal};
@@ -15,10 +16,11 @@ ghost use Rattle.seq_model.specs.Pictures.{state_before};
 ghost use Rattle.seq_model.specs.State.{Object, object_at, scene_objects};
 ghost use Rattle.seq_model.specs.Steps.{after, step, swept};
 ghost use Rattle.seq_model.specs.Tickets.{ticket_of};
+ghost use Rattle.seq_model.specs.Told.{told};
 ghost use Rattle.seq_model.specs.declared.calls.Call.{Call};
 ghost use Rattle.seq_model.specs.declared.calls.Call.TheVariants.{DiscardFrame, FrameReady, GetProperty, ObjectInfo, ParameterInfo, Subtypes};
 ghost use Rattle.seq_model.specs.declared.calls.Entry.{Entry};
-ghost use Rattle.seq_model.specs.declared.calls.Entry.TheVariants.{Called, Finished};
+ghost use Rattle.seq_model.specs.declared.calls.Entry.TheVariants.{Called, Closed, Finished};
 ghost use Rattle.seq_model.specs.declared.calls.Reply.{Reply};
 ghost use Rattle.seq_model.specs.declared.calls.Reply.TheVariants as reply;
 
@@ -139,4 +141,13 @@ pub fn creations_make_the_next_handle()
 pub fn no_handle_is_made_twice()
     ensures { (first second : History) (actor other h k : ℕ) (call further : Call) →
         Legal (((first ++ Called actor call (reply.Made h) ∷ []) ++ second) ++ Called other further (reply.Made k) ∷ []) → h < k }
+{}
+
+/// The deleter of each captured array runs at most once, and not while the array is there. With the close it has run for each one that was
+/// made.
+pub fn deleters_run_once()
+    ensures at_most_once { (history : History) (h : ℕ) → count_by (is_deleting h) (told history) ≤ 1 }
+    ensures when_gone { (history : History) (h : ℕ) → 0 < count_by (is_deleting h) (told history) → object_at (after history).state h ≡ None }
+    ensures at_the_close { (history : History) (h : ℕ) → Legal (history ++ Closed ∷ []) →
+        count_by (is_deleting h) (told (history ++ Closed ∷ [])) ≡ count_by (is_capturing h) (history ++ Closed ∷ []) }
 {}
