@@ -3,7 +3,7 @@ use Rattle.std.proofs.Common.{ℕ, zero, suc, ◌+◌, ◌≡◌, ◌<◌, ◌�
 use Rattle.std.specs.Prelude.{drop, nat_lt}
 use Rattle.std.specs.BTreeMap.{is_at}
 use Rattle.std.specs.List.{flat_map}
-use Rattle.std.specs.Option.{IfSome, option_map, unwrap_or}
+use Rattle.std.specs.Option.{IfSome, option_map_or}
 use Rattle.std.specs.Ordering.{nat_cmp}
 use Rattle.std.proofs.lemmas.Bool.{ltb-true}
 use Rattle.std.proofs.lemmas.Map.Entries.{All-lookup}
@@ -87,7 +87,7 @@ starts_stand_below objects n spot h o ranked e high =
 
 -- a walk from what is there, and from what is not
 abbrev walk_of : (depth : ℕ) (objects : SceneObjects) (start : Spot × ℕ) → Option SceneObject → List Visit
-walk_of depth objects start o = unwrap_or (option_map (λ (x : SceneObject). visit start x ∷ flat_map (walk_from depth objects) (below start.0 x)) o) []
+walk_of depth objects start o = option_map_or (λ (x : SceneObject). visit start x ∷ flat_map (walk_from depth objects) (below start.0 x)) o []
 
 -- no object stands below 0
 nothing_at_depth_0 : (objects : SceneObjects) (start : Spot × ℕ) (o : Option SceneObject) → MatchOption o (Unit {0}) (λ (x : SceneObject). rank_of x.kind < 0) →

@@ -1,11 +1,16 @@
 -- The kinds of objects: the type of each, and the subtypes of each type.
-use Rattle.std.specs.Prelude.{ℕ, List, [], ◌∷◌, Option, codes, map}
+use Rattle.std.specs.Prelude.{ℕ, ◌==◌, Bool, List, [], ◌∷◌, Option, codes, map}
 use Rattle.std.specs.Map.{lookup}
 use Rattle.std.specs.Str.{bytes_eq}
+use Rattle.dev_types.specs.DataTypes.{type_number}
 use Rattle.dev_types.specs.declared.data_types.DataType.{DataType}
 use Rattle.dev_types.specs.declared.data_types.DataType.TheVariants as ty
 use Rattle.kind_tables.specs.declared.kinds.Kind.{Kind}
 use Rattle.kind_tables.specs.declared.kinds.Kind.TheVariants.{CameraOrthographic, CameraPerspective, FrameDefault, GeometrySphere, GeometryTriangle, GroupDefault, InstanceTransform, LightDirectional, LightPoint, MaterialMatte, RendererDefault, SurfaceDefault, WorldDefault, Array}
+
+-- the same data type
+abbrev pub is_same_type : DataType → DataType → Bool
+is_same_type t u = type_number t == type_number u
 
 -- the type of the objects of a kind
 abbrev pub type_of_kind : Kind → DataType

@@ -1,6 +1,7 @@
 -- Which values of which parameters are in range, and in which order they are asked within one visit (ANARI 1.0 Specification, the tables
 -- of parameters). A value is the committed one, or the default.
 use Rattle.std.specs.Prelude.{ℕ, ℤ, pos, Bool, true, not, ◌&&◌, ◌==◌, ◌^◌, ◌++◌, nat_le, nat_lt, int_le, List, [], ◌∷◌, Option, Some, None, codes, length, map, take}
+use Rattle.std.specs.Int.{is_in_range}
 use Rattle.std.specs.List.{find, flat_map, list_all}
 use Rattle.std.specs.Option.{option_map}
 use Rattle.dev_types.specs.Words.{name_of_channel}
@@ -10,14 +11,14 @@ use Rattle.dev_types.specs.declared.handles.Channel.{Channel}
 use Rattle.dev_types.specs.declared.handles.Channel.TheVariants.{Color, PrimitiveId, ObjectId, InstanceId}
 use Rattle.dev_types.specs.declared.values.Value.{Value}
 use Rattle.dev_types.specs.declared.values.Value.TheVariants.{TypeName}
-use Rattle.dev_types.specs.DataTypes.{type_number}
 use Rattle.fx_math.specs.Mat34.{placed, scaled_radius}
 use Rattle.fx_math.specs.UnitVector.{unit}
 use Rattle.fx_math.specs.Vec3.{cross, reach}
 use Rattle.fx_math.specs.declared.transforms.Mat34.{Mat34}
 use Rattle.fx_math.specs.declared.vectors.Vec3.{Vec3}
-use Rattle.kind_tables.specs.SceneObjects.{SceneObject, SceneObjects, array_named, scalar_in, scalars_in, sizes_in, value_at, vector_in}
-use Rattle.kind_tables.specs.Shapes.{corners_of, positions_of, vertex}
+use Rattle.kind_tables.specs.Kinds.{is_same_type}
+use Rattle.kind_tables.specs.SceneObjects.{SceneObject, SceneObjects, scalar_of, scalars_of, sizes_in, value_at, vector_of}
+use Rattle.kind_tables.specs.Shapes.{common_radius, corners_of, own_radii, positions_of, vertex}
 use Rattle.kind_tables.specs.Walks.{Visit}
 use Rattle.kind_tables.specs.declared.kinds.Kind.{Kind}
 use Rattle.kind_tables.specs.declared.kinds.Kind.TheVariants.{CameraOrthographic, CameraPerspective, FrameDefault, GeometrySphere, GeometryTriangle, LightDirectional, LightPoint, MaterialMatte, RendererDefault}
@@ -48,7 +49,7 @@ is_radius m r = is_amount r && int_le (scaled_radius m r) (pos (2 ^ 28))
 
 -- a side of a frame
 abbrev pub is_side : ℕ → Bool
-is_side n = nat_le 1 n && nat_le n 4096
+is_side n = is_in_range 1 4096 n
 
 -- the type of a channel's pixels
 abbrev pub type_of_channel : Channel → DataType
@@ -57,7 +58,7 @@ type_of_channel _ = ty.Uint32
 
 -- a channel that is not asked for, or with this type
 abbrev pub is_asked_as : DataType → Option Value → Bool
-is_asked_as t (Some (TypeName asked)) = type_number asked == type_number t
+is_asked_as t (Some (TypeName asked)) = is_same_type asked t
 is_asked_as t _ = true
 
 -- a parameter's name, and whether its value is in range
@@ -67,16 +68,6 @@ Test = List ℕ × Bool
 -- the first name whose value is out of range
 abbrev pub first_broken : List Test → Option (List ℕ)
 first_broken tests = option_map (λ test. test.0) (find (λ test. not test.1) tests)
-
--- the numbers of an object's parameters
-abbrev scalar_of : SceneObject → List ℕ → ℤ
-scalar_of o name = scalar_in (value_at o name)
-
-abbrev scalars_of : SceneObject → List ℕ → List ℤ
-scalars_of o name = scalars_in (value_at o name)
-
-abbrev vector_of : SceneObject → List ℕ → Vec3
-vector_of o name = vector_in (value_at o name)
 
 -- a scalar within two ends, one that is 0 or more, and a colour
 abbrev between : ℤ → ℤ → SceneObject → List ℕ → Test
@@ -127,16 +118,12 @@ radius_tests m (Some radii) common count =
     (codes "vertex.radius", nat_le count (length radii)) ∷ (codes "vertex.radius", list_all (is_radius m) (take count radii)) ∷ []
 radius_tests m None common count = (codes "radius", is_radius m common) ∷ []
 
--- the radii that spheres were given of their own
-abbrev pub own_radii : SceneObjects → SceneObject → Option (List ℤ)
-own_radii objects geometry = option_map (map (λ v. scalar_in (Some v))) (array_named objects geometry (codes "vertex.radius"))
-
 -- the ranges of a geometry under a transform: triangle by triangle; of spheres first all centres, then the radii
 abbrev pub geometry_tests : Kind → SceneObjects → SceneObject → Mat34 → List Test
 geometry_tests GeometryTriangle objects o m = flat_map (triangle_tests m (positions_of objects o)) (corners_of objects o)
 geometry_tests GeometrySphere objects o m =
     (codes "vertex.position", list_all (λ p. is_point (placed m p)) (positions_of objects o)) ∷
-    radius_tests m (own_radii objects o) (scalar_of o (codes "radius")) (length (positions_of objects o))
+    radius_tests m (own_radii objects o) (common_radius o) (length (positions_of objects o))
 geometry_tests _ objects o m = []
 
 -- the first parameter of a visited object that is out of range

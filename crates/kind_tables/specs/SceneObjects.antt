@@ -68,7 +68,7 @@ scalar_in _ = pos 0
 
 abbrev pub scalars_in : Option Value → List ℤ
 scalars_in (Some (ScalarVec3 zs)) = zs
-scalars_in _ = []
+scalars_in _ = pos 0 ∷ pos 0 ∷ pos 0 ∷ []
 
 abbrev pub matrix_in : Option Value → Mat34
 matrix_in (Some (ScalarMat34 zs)) = record { c = zs }
@@ -92,6 +92,16 @@ vector zs = record { x = slice_index_or zs 0 (pos 0); y = slice_index_or zs 1 (p
 
 abbrev pub vector_in : Option Value → Vec3
 vector_in value = vector (scalars_in value)
+
+-- the numbers of an object's parameters
+abbrev pub scalar_of : SceneObject → List ℕ → ℤ
+scalar_of o name = scalar_in (value_at o name)
+
+abbrev pub scalars_of : SceneObject → List ℕ → List ℤ
+scalars_of o name = scalars_in (value_at o name)
+
+abbrev pub vector_of : SceneObject → List ℕ → Vec3
+vector_of o name = vector_in (value_at o name)
 
 -- element i of a block
 abbrev pub element : Block → ℕ → Value

@@ -2,7 +2,7 @@
 -- Surface, Light, Camera, Renderer).
 use Rattle.std.specs.Prelude.{ℕ, false, List, [], Option, Some, None, codes, map, slice_index_or}
 use Rattle.std.specs.List.{enumerate_from, filter_map, flat_map}
-use Rattle.std.specs.Option.{option_map, unwrap_or}
+use Rattle.std.specs.Option.{option_map_or, unwrap_or}
 use Rattle.fx_math.specs.Mat34.{linear, placed}
 use Rattle.fx_math.specs.declared.scene.CameraRow.{CameraRow}
 use Rattle.fx_math.specs.declared.scene.CameraRow.TheVariants.{Orthographic, Perspective}
@@ -12,7 +12,7 @@ use Rattle.fx_math.specs.declared.scene.LightRow.TheVariants.{Directional, Point
 use Rattle.fx_math.specs.declared.scene.Primitive.{Primitive}
 use Rattle.fx_math.specs.declared.scene.Scene.{Scene}
 use Rattle.fx_math.specs.declared.scene.Shape.{Shape}
-use Rattle.kind_tables.specs.SceneObjects.{SceneObject, SceneObjects, id_in, object_at, object_named, scalar_in, scalars_in, sizes_in, value_at, vector_in}
+use Rattle.kind_tables.specs.SceneObjects.{SceneObject, SceneObjects, id_in, object_at, object_named, scalar_of, scalars_of, sizes_in, value_at, vector_of}
 use Rattle.kind_tables.specs.Shapes.{shapes_of}
 use Rattle.kind_tables.specs.Walks.{Spot, Visit, walk}
 use Rattle.kind_tables.specs.declared.kinds.Kind.{Kind}
@@ -23,8 +23,8 @@ abbrev pub primitive : Spot → SceneObject → SceneObject → ℕ × Shape →
 primitive spot surface material shape = record {
   place = record { inst = spot.inst; surf = spot.surf; prim = shape.0 };
   shape = shape.1;
-  color = scalars_in (value_at material (codes "color"));
-  opacity = scalar_in (value_at material (codes "opacity"));
+  color = scalars_of material (codes "color");
+  opacity = scalar_of material (codes "opacity");
   object_id = id_in (value_at surface (codes "id"));
   instance_id = spot.instance_id;
 }
@@ -32,12 +32,12 @@ primitive spot surface material shape = record {
 -- the shapes of a surface's geometry at a spot, numbered from 0
 abbrev pub surface_shapes : SceneObjects → Spot → SceneObject → List (ℕ × Shape)
 surface_shapes objects spot surface =
-    enumerate_from 0 (unwrap_or (option_map (λ geometry. shapes_of objects geometry spot.transform) (object_named objects surface (codes "geometry"))) [])
+    enumerate_from 0 (option_map_or (λ geometry. shapes_of objects geometry spot.transform) (object_named objects surface (codes "geometry")) [])
 
 -- what a surface shows; without a material it shows nothing
 abbrev pub surface_primitives : SceneObjects → Spot → SceneObject → List Primitive
 surface_primitives objects spot surface =
-    unwrap_or (option_map (λ material. map (primitive spot surface material) (surface_shapes objects spot surface)) (object_named objects surface (codes "material"))) []
+    option_map_or (λ material. map (primitive spot surface material) (surface_shapes objects spot surface)) (object_named objects surface (codes "material")) []
 
 -- the primitives of a visit of an object of a kind: only surfaces have any
 abbrev pub primitives_by : Kind → SceneObjects → Visit → List Primitive
@@ -54,11 +54,11 @@ primitives_of objects visits = flat_map (primitives_at objects) visits
 -- the light of a visit of an object of a kind, in world space
 abbrev pub light_by : Kind → Spot → SceneObject → Option LightRow
 light_by LightDirectional spot o =
-    Some (Directional (linear spot.transform (vector_in (value_at o (codes "direction"))))
-    (scalars_in (value_at o (codes "color"))) (scalar_in (value_at o (codes "irradiance"))))
+    Some (Directional (linear spot.transform (vector_of o (codes "direction")))
+    (scalars_of o (codes "color")) (scalar_of o (codes "irradiance")))
 light_by LightPoint spot o =
-    Some (Point (placed spot.transform (vector_in (value_at o (codes "position"))))
-    (scalars_in (value_at o (codes "color"))) (scalar_in (value_at o (codes "intensity"))))
+    Some (Point (placed spot.transform (vector_of o (codes "position")))
+    (scalars_of o (codes "color")) (scalar_of o (codes "intensity")))
 light_by _ spot o = None
 
 abbrev pub light_at : Visit → Option LightRow
@@ -71,11 +71,11 @@ lights_of visits = filter_map light_at visits
 -- the camera of a kind
 abbrev pub camera_by : Kind → SceneObject → CameraRow
 camera_by CameraPerspective o =
-    Perspective (vector_in (value_at o (codes "position"))) (vector_in (value_at o (codes "direction"))) (vector_in (value_at o (codes "up")))
-    (scalar_in (value_at o (codes "aspect"))) (scalar_in (value_at o (codes "tanHalfFovy")))
+    Perspective (vector_of o (codes "position")) (vector_of o (codes "direction")) (vector_of o (codes "up"))
+    (scalar_of o (codes "aspect")) (scalar_of o (codes "tanHalfFovy"))
 camera_by _ o =
-    Orthographic (vector_in (value_at o (codes "position"))) (vector_in (value_at o (codes "direction"))) (vector_in (value_at o (codes "up")))
-    (scalar_in (value_at o (codes "aspect"))) (scalar_in (value_at o (codes "height")))
+    Orthographic (vector_of o (codes "position")) (vector_of o (codes "direction")) (vector_of o (codes "up"))
+    (scalar_of o (codes "aspect")) (scalar_of o (codes "height"))
 
 -- an object that names nothing and has no values, which stands where none is; the scene of a complete frame has none of it
 abbrev pub nothing_of : Kind → SceneObject
@@ -85,9 +85,9 @@ nothing_of kind = record { kind = kind; committed = []; block = None; mapped = f
 abbrev pub lighting_by : List LightRow → SceneObject → Lighting
 lighting_by lights renderer = record {
   lights = lights;
-  background = scalars_in (value_at renderer (codes "background"));
-  ambient_color = scalars_in (value_at renderer (codes "ambientColor"));
-  ambient_radiance = scalar_in (value_at renderer (codes "ambientRadiance"));
+  background = scalars_of renderer (codes "background");
+  ambient_color = scalars_of renderer (codes "ambientColor");
+  ambient_radiance = scalar_of renderer (codes "ambientRadiance");
 }
 
 -- the camera and the renderer of a frame

@@ -2,7 +2,7 @@
 -- object is visited before what it names, and what it names in the order of its parameters and its elements.
 use Rattle.std.specs.Prelude.{ℕ, zero, suc, ◌+◌, List, [], ◌∷◌, ◌++◌, codes, map}
 use Rattle.std.specs.List.{filter_map, flat_map}
-use Rattle.std.specs.Option.{option_and_then, option_map, unwrap_or}
+use Rattle.std.specs.Option.{option_and_then, option_map_or}
 use Rattle.dev_types.specs.declared.data_types.DataType.TheVariants as ty
 use Rattle.fx_math.specs.Ids.{no_id}
 use Rattle.fx_math.specs.declared.transforms.Mat34.{Mat34}
@@ -30,18 +30,14 @@ at_origin = record { inst = 0; surf = 0; transform = record { c = identity }; in
 
 -- where element i of an array stands: surfaces are numbered in their array, and instances from 1 on
 abbrev pub at_element : Kind → Spot → ℕ → Spot
-at_element (Array ty.Surface) spot i = record { inst = spot.inst; surf = i; transform = spot.transform; instance_id = spot.instance_id }
-at_element (Array ty.Instance) spot i = record { inst = i + 1; surf = spot.surf; transform = spot.transform; instance_id = spot.instance_id }
+at_element (Array ty.Surface) spot i = record spot { surf = i }
+at_element (Array ty.Instance) spot i = record spot { inst = i + 1 }
 at_element _ spot i = spot
 
 -- where the parameters of an object stand: those of an instance under its transform
 abbrev pub at_parameters_of : Kind → SceneObject → Spot → Spot
-at_parameters_of InstanceTransform o spot = record {
-  inst = spot.inst;
-  surf = spot.surf;
-  transform = matrix_in (value_at o (codes "transform"));
-  instance_id = id_in (value_at o (codes "id"));
-}
+at_parameters_of InstanceTransform o spot =
+    record spot { transform = matrix_in (value_at o (codes "transform")); instance_id = id_in (value_at o (codes "id")) }
 at_parameters_of _ o spot = spot
 
 -- the objects that an object's parameters name, in the order of its rows
@@ -50,7 +46,7 @@ named_parameters o = filter_map (λ row. option_and_then object_in (value_named 
 
 -- the objects that an object's elements name, each with its index
 abbrev pub named_elements : SceneObject → List (ℕ × ℕ)
-named_elements o = unwrap_or (option_map objects_in o.block) []
+named_elements o = option_map_or objects_in o.block []
 
 -- what an object names, each with the place where it stands
 unfoldable pub below : Spot → SceneObject → List (Spot × ℕ)
@@ -66,7 +62,7 @@ visit start o = record { handle = start.1; object = o; spot = start.0 }
 unfoldable pub walk_from : ℕ → SceneObjects → Spot × ℕ → List Visit
 walk_from zero objects start = []
 walk_from (suc depth) objects start =
-    unwrap_or (option_map (λ o. visit start o ∷ flat_map (walk_from depth objects) (below start.0 o)) (object_at objects start.1)) []
+    option_map_or (λ o. visit start o ∷ flat_map (walk_from depth objects) (below start.0 o)) (object_at objects start.1) []
 
 -- the walk from an object; no chain of names is longer than the ten ranks
 unfoldable pub walk : SceneObjects → ℕ → List Visit

@@ -1,11 +1,9 @@
--- Which replies a call may have after a past, and which histories are legal.
-use Rattle.std.specs.Prelude.{◌≡◌, ◌⊎◌, ℕ, ℤ, zero, suc, pos, negsuc, ◌+◌, ◌-ℤ◌, ◌+ℤ◌, ◌<◌, ◌≤◌, ◌==◌, Bool, true, false, List, [], ◌∷◌, ◌++◌, All, Option, Some, None, IsTrue, codes, length, map, fold}
-use Rattle.std.specs.List.{filter, flat_map, list_all, list_any}
-use Rattle.std.specs.Option.{MatchOption, option_map, option_and_then, option_map_or, option_or, unwrap_or}
+-- Which replies a call may have after a past.
+use Rattle.std.specs.Prelude.{◌≡◌, ℕ, ℤ, zero, suc, pos, negsuc, ◌-ℤ◌, ◌+ℤ◌, ◌<◌, Bool, true, false, List, [], ◌∷◌, Option, Some, None, map, fold}
+use Rattle.std.specs.List.{flat_map}
+use Rattle.std.specs.Option.{MatchOption, option_and_then, option_map, option_or}
 use Rattle.std.specs.Int.{int_max, int_min}
-use Rattle.dev_types.specs.declared.data_types.DataType.{DataType}
 use Rattle.dev_types.specs.declared.handles.Channel.{Channel}
-use Rattle.dev_types.specs.declared.refusals.Refused.{Refused}
 use Rattle.dev_types.specs.declared.refusals.Refused.TheVariants.{InFlight}
 use Rattle.dev_types.specs.declared.answers.ParamInfo.{ParamInfo}
 use Rattle.dev_types.specs.declared.values.Value.{Value}
@@ -26,7 +24,7 @@ use Rattle.seq_model.specs.Refusals.{phase_at, refusal, walk_at}
 use Rattle.seq_model.specs.State.{Phase, Empty, Flight, Done, object_at, scene_objects}
 use Rattle.seq_model.specs.Steps.{Past, next_place}
 use Rattle.seq_model.specs.declared.calls.Call.{Call}
-use Rattle.seq_model.specs.declared.calls.Call.TheVariants.{NewObject, NewArray, Retain, Release, SetParameter, UnsetParameter, UnsetAll, Commit, MapArray, UnmapArray, MapParameterArray, UnmapParameterArray, RenderFrame, FrameReady, DiscardFrame, MapFrame, UnmapFrame, GetProperty, Subtypes, ObjectInfo, ParameterInfo}
+use Rattle.seq_model.specs.declared.calls.Call.TheVariants.{NewObject, NewArray, MapArray, MapParameterArray, UnmapParameterArray, FrameReady, MapFrame, GetProperty, Subtypes, ObjectInfo, ParameterInfo}
 use Rattle.seq_model.specs.declared.calls.Reply.{Reply}
 use Rattle.seq_model.specs.declared.calls.Reply.TheVariants as reply
 
@@ -59,55 +57,59 @@ abbrev pub progress_of : Phase → ℤ
 progress_of (Done _) = pos 65536
 progress_of _ = pos 0
 
--- the properties: the version of the device, the bounds of a world, the progress of a frame (ANARI 1.0 Specification, object properties)
-abbrev pub property_by : Past → ℕ → Option Kind → Value
-property_by past h None = value.Int32 (pos 1)
-property_by past h (Some WorldDefault) = value.ScalarBox3 (bounds_of (primitives_of (scene_objects past.state) (walk_at past h)))
-property_by past h (Some _) = value.Scalar (progress_of (phase_at past h))
+-- the properties of an object of a kind: the bounds of a world, the progress of a frame (ANARI 1.0 Specification, object properties)
+abbrev pub property_by : Past → ℕ → Kind → Value
+property_by past h WorldDefault = value.ScalarBox3 (bounds_of (primitives_of (scene_objects past.state) (walk_at past h)))
+property_by past h _ = value.Scalar (progress_of (phase_at past h))
 
--- handle 0 stands for the device
-abbrev pub property_of : Past → ℕ → Value
-property_of past zero = property_by past 0 None
-property_of past (suc h) = property_by past (suc h) (option_map (λ o. o.kind) (object_at past.state (suc h)))
+-- handle 0 stands for the device, which tells its version
+abbrev pub property_of : Past → ℕ → Option Value
+property_of past zero = Some (value.Int32 (pos 1))
+property_of past (suc h) = option_map (λ o. property_by past (suc h) o.kind) (object_at past.state (suc h))
 
 -- what a row tells of its parameter
 abbrev pub info_of : Row → ParamInfo
 info_of row = record { types = row.ty ∷ []; required = row.required; default = row.default }
 
--- a frame in flight is not ready, and a call that waits is not entered before it is; a frame that is done is
-abbrev pub IsReadiness : Past → Bool → Phase → Reply → Type 0
-IsReadiness past wait Empty r = ⊥
-IsReadiness past true (Flight t) r = ⊥
-IsReadiness past false (Flight t) r = (given : ℕ) × (given < tiles_at past.seen t) × (r ≡ reply.NotReady given (tiles_at past.seen t))
-IsReadiness past wait (Done t) r = r ≡ reply.Ready
+-- a frame in flight is not ready, and a call that waits for it is not entered before it is; a frame that is done is ready
+abbrev pub readiness : Past → Bool → Phase → Option Reply
+readiness past wait Empty = None
+readiness past true (Flight t) = None
+readiness past false (Flight t) = Some (reply.NotReady 0 (tiles_at past.seen t))
+readiness past wait (Done t) = Some reply.Ready
 
 -- a channel of a frame that is done shows the picture of its render
-abbrev pub IsMapped : Past → Channel → Phase → Reply → Type 0
-IsMapped past c (Done t) r =
-    r ≡ reply.Mapped (scene_at past.seen t).width (scene_at past.seen t).height (type_of_channel c) (picture_at past.seen t c)
-IsMapped past c _ r = ⊥
+abbrev pub mapped_picture : Past → Channel → Phase → Option Reply
+mapped_picture past c (Done t) =
+    Some (reply.Mapped (scene_at past.seen t).width (scene_at past.seen t).height (type_of_channel c) (picture_at past.seen t c))
+mapped_picture past c _ = None
 
--- the replies to a call that no refusal applies to
-abbrev pub IsGranted : Past → Call → Reply → Type 0
-IsGranted past (NewObject _ _) r = r ≡ reply.Made past.state.next
-IsGranted past (NewArray _ _ _ _ _) r = r ≡ reply.Made past.state.next
-IsGranted past (MapArray h) r = r ≡ reply.Lent (next_place past)
-IsGranted past (MapParameterArray _ _ _ _) r = r ≡ reply.Lent (next_place past)
-IsGranted past (UnmapParameterArray _ _ _ _) r = r ≡ reply.Made past.state.next
-IsGranted past (FrameReady h wait) r = IsReadiness past wait (phase_at past h) r
-IsGranted past (MapFrame h c) r = IsMapped past c (phase_at past h) r
-IsGranted past (GetProperty h name) r = r ≡ reply.Val (property_of past h)
-IsGranted past (Subtypes t) r = r ≡ reply.Listed (subtypes_of t)
-IsGranted past (ObjectInfo t subtype) r = r ≡ reply.Listed (option_map_or parameters_of (kind_of t subtype) [])
-IsGranted past (ParameterInfo t subtype name) r =
-    MatchOption (option_and_then (λ kind. row_of kind name) (kind_of t subtype)) ⊥ (λ row. r ≡ reply.Info (info_of row))
-IsGranted past _ r = r ≡ reply.Done
+-- the reply to a call that no refusal applies to
+abbrev pub granted : Past → Call → Option Reply
+granted past (NewObject _ _) = Some (reply.Made past.state.next)
+granted past (NewArray _ _ _ _ _) = Some (reply.Made past.state.next)
+granted past (MapArray h) = Some (reply.Lent (next_place past))
+granted past (MapParameterArray _ _ _ _) = Some (reply.Lent (next_place past))
+granted past (UnmapParameterArray _ _ _ _) = Some (reply.Made past.state.next)
+granted past (FrameReady h wait) = readiness past wait (phase_at past h)
+granted past (MapFrame h c) = mapped_picture past c (phase_at past h)
+granted past (GetProperty h name) = option_map reply.Val (property_of past h)
+granted past (Subtypes t) = Some (reply.Listed (subtypes_of t))
+granted past (ObjectInfo t subtype) = option_map (λ kind. reply.Listed (parameters_of kind)) (kind_of t subtype)
+granted past (ParameterInfo t subtype name) =
+    option_map (λ row. reply.Info (info_of row)) (option_and_then (λ kind. row_of kind name) (kind_of t subtype))
+granted past _ = Some reply.Done
 
--- the replies to a call that is refused: of a frame in flight any number of finished tiles may have been seen that is not all
-abbrev pub IsDenied : Refused → Reply → Type 0
-IsDenied (InFlight _ of) r = (given : ℕ) × (given < of) × (r ≡ reply.Denied (InFlight given of))
-IsDenied refused r = r ≡ reply.Denied refused
+-- the reply to a call, where no tile of a flight was seen finished yet; there is none where the call waits for a flight
+unfoldable pub answer : Past → Call → Option Reply
+answer past call = option_or (option_map reply.Denied (refusal past call)) (granted past call)
+
+-- the same reply, but that of a flight any number of tiles may have been seen finished that is not all
+abbrev pub IsLike : Reply → Reply → Type 0
+IsLike (reply.NotReady _ of) r = (given : ℕ) × (given < of) × (r ≡ reply.NotReady given of)
+IsLike (reply.Denied (InFlight _ of)) r = (given : ℕ) × (given < of) × (r ≡ reply.Denied (InFlight given of))
+IsLike a r = r ≡ a
 
 -- the replies that a call may have after a past
 unfoldable pub IsAnswer : Past → Call → Reply → Type 0
-IsAnswer past call r = MatchOption (refusal past call) (IsGranted past call r) (λ refused. IsDenied refused r)
+IsAnswer past call r = MatchOption (answer past call) ⊥ (λ a. IsLike a r)

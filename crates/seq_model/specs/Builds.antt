@@ -1,6 +1,6 @@
 -- How many worlds are prepared for rendering: a world that nobody touched since its last render is not prepared again.
-use Rattle.std.specs.Prelude.{ℕ, zero, suc, ◌+◌, ◌-◌, ◌==◌, fold, nat_lt, ◌&&◌, Bool, true, false, List, [], ◌∷◌, Option, Some, None, count_by, length, codes, if◌then◌else◌}
-use Rattle.std.specs.List.{filter, filter_map, list_any, range_with_len}
+use Rattle.std.specs.Prelude.{ℕ, ◌-◌, ◌==◌, nat_lt, ◌&&◌, Bool, true, false, List, Option, None, count_by, length, codes}
+use Rattle.std.specs.List.{filter, last_or, list_any, range_with_len}
 use Rattle.std.specs.Option.{option_and_then, option_map_or}
 use Rattle.kind_tables.specs.SceneObjects.{object_in, value_named}
 use Rattle.kind_tables.specs.Walks.{visited, walk}
@@ -8,7 +8,6 @@ use Rattle.seq_model.specs.Histories.{History, entry_at, frame_at}
 use Rattle.seq_model.specs.Life.{has}
 use Rattle.seq_model.specs.Pictures.{state_before}
 use Rattle.seq_model.specs.State.{object_at, scene_objects}
-use Rattle.seq_model.specs.declared.calls.Call.{Call}
 use Rattle.seq_model.specs.declared.calls.Call.TheVariants.{Commit, UnmapArray}
 use Rattle.seq_model.specs.declared.calls.Entry.{Entry}
 use Rattle.seq_model.specs.declared.calls.Entry.TheVariants.{Called}
@@ -26,26 +25,22 @@ is_touching objects (Called _ (Commit h) reply.Done) = has h objects
 is_touching objects (Called _ (UnmapArray h _ _) reply.Done) = has h objects
 is_touching objects _ = false
 
--- what the world w had below it at a place
-abbrev pub below_world : History → ℕ → ℕ → List ℕ
-below_world history p w = visited (walk (scene_objects (state_before history p)) w)
+-- what a walk from world w visited at place p, w among them
+abbrev pub reach_of_world : History → ℕ → ℕ → List ℕ
+reach_of_world history p w = visited (walk (scene_objects (state_before history p)) w)
 
--- whether an entry between places p and t touched what world w had below it at p
+-- whether an entry between places p and t touched what a walk from world w visited at p
 abbrev pub is_touched : History → ℕ → ℕ → ℕ → Bool
 is_touched history w p t =
-    list_any (λ q. nat_lt p q && option_map_or (is_touching (below_world history p w)) (entry_at history q) false) (range_with_len 1 (t - 1))
+    list_any (λ q. nat_lt p q && option_map_or (is_touching (reach_of_world history p w)) (entry_at history q) false) (range_with_len 1 (t - 1))
 
 -- the render at a place is one of world w
 abbrev pub is_render_of : History → ℕ → ℕ → Bool
 is_render_of history w t = option_map_or (λ v. v == w) (world_at history t) false
 
--- the latest of some places
-abbrev pub last_of : List ℕ → Option ℕ
-last_of places = fold (λ _ p. Some p) None places
-
 -- the latest render of world w before place t
 abbrev pub last_render : History → ℕ → ℕ → Option ℕ
-last_render history w t = last_of (filter (is_render_of history w) (range_with_len 1 (t - 1)))
+last_render history w t = last_or None (filter (is_render_of history w) (range_with_len 1 (t - 1)))
 
 -- a render of world w at place t is a build where the world was not rendered before, or was touched since it was last
 abbrev pub is_build_of : History → ℕ → ℕ → Bool

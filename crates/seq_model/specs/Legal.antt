@@ -1,26 +1,24 @@
 -- Which histories are legal: each reply is one that its call may have, each note stands where it is true, and nothing follows a close.
-use Rattle.std.specs.Prelude.{◌≡◌, ◌⊎◌, ℕ, zero, suc, ◌+◌, ◌≤◌, ◌==◌, ◌&&◌, ◌||◌, Bool, true, false, not, List, [], ◌∷◌, All, Option, Some, None, IsTrue, length, map}
-use Rattle.std.specs.List.{filter_map, list_all, list_any}
-use Rattle.std.specs.Option.{MatchOption, option_and_then, option_map, option_map_or, unwrap_or}
-use Rattle.dev_types.specs.DataTypes.{byte_size}
+use Rattle.std.specs.Prelude.{◌≡◌, ◌⊎◌, ℕ, ◌≤◌, ◌||◌, Bool, true, false, not, List, [], ◌∷◌, All, Option, Some, None, IsTrue, length}
+use Rattle.std.specs.List.{list_all, list_any}
+use Rattle.std.specs.Option.{MatchOption, option_and_then, option_map, option_map_or}
 use Rattle.dev_types.specs.declared.refusals.Refused.TheVariants.{InFlight}
 use Rattle.kind_tables.specs.SceneObjects.{Block, objects_in}
 use Rattle.seq_model.specs.Answers.{IsAnswer}
 use Rattle.seq_model.specs.Histories.{History}
 use Rattle.seq_model.specs.Life.{has}
 use Rattle.seq_model.specs.Refusals.{has_type, is_array_loan_out, is_parameter_loan_out, phase_at}
-use Rattle.seq_model.specs.State.{Phase, Empty, Flight, Done, State, flights, object_at, ticket_in}
-use Rattle.seq_model.specs.Steps.{Past, elem_of_loan, start, step}
+use Rattle.seq_model.specs.State.{State, content_of_loan, flights, is_in_flight, object_at, parameter_loan, ticket_in, with_bytes}
+use Rattle.seq_model.specs.Steps.{Past, start, step}
 use Rattle.seq_model.specs.declared.calls.Call.{Call}
 use Rattle.seq_model.specs.declared.calls.Call.TheVariants.{UnmapArray, UnmapParameterArray, FrameReady, RenderFrame, MapFrame}
 use Rattle.seq_model.specs.declared.calls.Entry.{Entry}
 use Rattle.seq_model.specs.declared.calls.Entry.TheVariants.{Called, Finished, Left, Closed}
-use Rattle.seq_model.specs.declared.calls.Reply.{Reply}
 use Rattle.seq_model.specs.declared.calls.Reply.TheVariants as reply
 
 -- some frame is in flight with this ticket
 abbrev pub is_flying : State → ℕ → Bool
-is_flying s t = has t (filter_map (λ entry. ticket_in entry.1.phase) s.objects)
+is_flying s t = list_any (λ entry. is_in_flight t entry.1) s.objects
 
 -- the entry is a call
 abbrev pub is_called : Entry → Bool
@@ -31,15 +29,13 @@ is_called _ = false
 abbrev pub are_elements_sound : Past → Block → Bool
 are_elements_sound past b = list_all (λ named. has_type past named.1 b.elem) (objects_in b)
 
--- the content that an unmap brings: that of the array, and that of a new one without gaps
+-- the content that an unmap brings: that of the array, and that of a new one
 abbrev pub content_of_array : Past → ℕ → List ℕ → Option Block
-content_of_array past h bytes =
-    option_map (λ a. record { elem = a.block.elem; count = a.block.count; stride = a.block.stride; bytes = bytes }) (option_and_then (λ o. o.array) (object_at past.state h))
+content_of_array past h bytes = option_map (λ a. with_bytes bytes a.block) (option_and_then (λ o. o.array) (object_at past.state h))
 
 abbrev pub content_of_parameter : Past → ℕ → ℕ → List ℕ → Option Block
 content_of_parameter past h number bytes =
-    option_map (λ loan. record { elem = loan.elem; count = loan.count; stride = byte_size loan.elem; bytes = bytes })
-    (option_and_then (λ o. elem_of_loan number o.parameter_loans) (object_at past.state h))
+    option_map (λ loan. content_of_loan loan bytes) (option_and_then (λ o. parameter_loan number o.parameter_loans) (object_at past.state h))
 
 -- what comes back by an unmap of a loan that is out names only what is there: every other element was replaced by 0
 abbrev pub is_content_sound : Past → Call → Bool

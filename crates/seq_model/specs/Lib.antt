@@ -1,5 +1,6 @@
 pub mod Answers
 pub mod Builds
+pub mod Contents
 pub mod Ends
 pub mod Examples
 pub mod Extensions
@@ -8,6 +9,7 @@ pub mod Legal
 pub mod Life
 pub mod Pictures
 pub mod Refusals
+pub mod Room
 pub mod State
 pub mod Steps
 pub mod Tickets

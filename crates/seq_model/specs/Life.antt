@@ -1,7 +1,7 @@
 -- Which objects live: those that can be reached from public references, loans and flights (ANARI 1.0 Specification, object lifetime).
 use Rattle.std.specs.Prelude.{ℕ, zero, suc, ◌+◌, ◌==◌, ◌||◌, nat_lt, Bool, List, [], ◌++◌, Option, count_by, length, map}
 use Rattle.std.specs.List.{filter, filter_map, list_any, sum_by}
-use Rattle.std.specs.Option.{is_some, option_and_then, option_map, option_map_or, unwrap_or}
+use Rattle.std.specs.Option.{option_map, option_map_or, unwrap_or}
 use Rattle.dev_types.specs.declared.values.Value.{Value}
 use Rattle.kind_tables.specs.SceneObjects.{object_in, objects_in}
 use Rattle.seq_model.specs.State.{ArrayState, Object, State, array_loan, flights}
@@ -28,7 +28,7 @@ names_of o = objects_of o.staged ++ objects_of o.committed ++ objects_of_element
 
 -- how many loans of an object are out: of an array, of a frame's channels, of arrays for its parameters
 abbrev pub loan_count : Object → ℕ
-loan_count o = option_map_or (λ _. 1) (array_loan o) 0 + length o.mapped + length o.parameter_loans
+loan_count o = option_map_or (λ _. 1) (array_loan o) 0 + length o.channels + length o.parameter_loans
 
 -- an object that lives by itself: it is held by the application, lent, or was reached by a flight
 unfoldable pub is_root : (ℕ → ℕ) → (ℕ → Bool) → ℕ × Object → Bool
@@ -51,7 +51,7 @@ grown is_root objects (suc n) = roots_and_named is_root objects (grown is_root o
 unfoldable pub live : (ℕ × Object → Bool) → List (ℕ × Object) → List (ℕ × Object)
 live is_root objects = grown is_root objects 10
 
--- how many places hold h in a state: entries and elements, its loans, and the flights that reached it
+-- how many places beside public references hold h in a state: entries and elements, its loans, and the flights that reached it
 unfoldable pub named : (ℕ → ℕ → Bool) → State → ℕ → ℕ
 named is_reached_by s h =
     sum_by (λ entry. times h (names_of entry.1)) s.objects

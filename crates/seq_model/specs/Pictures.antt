@@ -1,6 +1,6 @@
 -- The pictures of a history. A picture shows the scene that was committed where its render stands, whatever came after (ANARI 1.0
 -- Specification, Frame).
-use Rattle.std.specs.Prelude.{ℕ, Bool, List, Option, Some, None}
+use Rattle.std.specs.Prelude.{ℕ, Bool, List}
 use Rattle.std.specs.Option.{is_some, option_and_then, unwrap_or}
 use Rattle.dev_types.specs.Words.{name_of_channel}
 use Rattle.dev_types.specs.declared.handles.Channel.{Channel}
@@ -8,6 +8,7 @@ use Rattle.dev_types.specs.declared.handles.Channel.TheVariants as channel
 use Rattle.fx_math.specs.declared.scene.Scene.{Scene}
 use Rattle.kind_tables.specs.SceneObjects.{value_named}
 use Rattle.kind_tables.specs.Scenes.{scene}
+use Rattle.kind_tables.specs.Walks.{visited, walk}
 use Rattle.picture_model.specs.Pictures.{picture}
 use Rattle.picture_model.specs.Tiles.{tile_count}
 use Rattle.picture_model.specs.declared.records.Plane.{Plane}
@@ -43,3 +44,7 @@ tiles_at history t = tile_count (scene_at history t).width (scene_at history t).
 unfoldable pub has_channel : History → ℕ → Channel → Bool
 has_channel history t c =
     is_some (option_and_then (λ o. value_named (name_of_channel c) o.committed) (option_and_then (object_at (state_before history t)) (frame_at history t)))
+
+-- what the render at place t reached: all that the walk from its frame visited there
+unfoldable pub reached_at : History → ℕ → List ℕ
+reached_at history t = visited (walk (scene_objects (state_before history t)) (unwrap_or (frame_at history t) 0))

@@ -1,60 +1,53 @@
 -- Why a call is refused after a past. A call that several refusals apply to is refused with the one of the lowest number.
-use Rattle.std.specs.Prelude.{ℕ, zero, suc, ◌+◌, ◌*◌, ◌==◌, ◌^◌, ◌&&◌, ◌||◌, not, nat_lt, Bool, true, false, List, [], ◌∷◌, ◌++◌, Option, Some, None, codes, length, map, if◌then◌else◌}
-use Rattle.std.specs.List.{find, list_any}
-use Rattle.std.specs.Option.{is_none, is_some, option_and_then, option_map, option_map_or, option_or, unwrap_or}
+use Rattle.std.specs.Prelude.{ℕ, zero, suc, ◌*◌, ◌==◌, ◌^◌, ◌&&◌, ◌||◌, not, nat_lt, Bool, true, false, List, [], ◌∷◌, ◌++◌, Option, Some, None, codes, length, map, if◌then◌else◌}
+use Rattle.std.specs.Bool.{then_some}
+use Rattle.std.specs.List.{list_any}
+use Rattle.std.specs.Option.{is_none, is_some, option_and_then, option_map_or}
 use Rattle.std.specs.Str.{bytes_eq}
 use Rattle.dev_types.specs.Blocks.{needed_length}
-use Rattle.dev_types.specs.DataTypes.{byte_size, is_element_type, is_object_type, type_number}
-use Rattle.dev_types.specs.ValueBytes.{type_of}
+use Rattle.dev_types.specs.DataTypes.{byte_size, is_element_type, is_object_type}
+use Rattle.dev_types.specs.ValueBytes.{is_well_typed, type_of}
 use Rattle.dev_types.specs.Words.{name_of_channel}
 use Rattle.dev_types.specs.declared.data_types.DataType.{DataType}
 use Rattle.dev_types.specs.declared.data_types.DataType.TheVariants as ty
 use Rattle.dev_types.specs.declared.handles.Channel.{Channel}
 use Rattle.dev_types.specs.declared.handles.Origin.{Origin}
-use Rattle.dev_types.specs.declared.handles.Origin.TheVariants.{Captured, Shared, Managed}
+use Rattle.dev_types.specs.declared.handles.Origin.TheVariants.{Managed}
 use Rattle.dev_types.specs.declared.refusals.Refused.{Refused}
 use Rattle.dev_types.specs.declared.refusals.Refused.TheVariants.{BadHandle, NotHeld, WrongKind, BadSubtype, BadType, UnknownObjectParameter, BadShape, ArrayMapped, NotMapped, InFlight, NoPicture, ChannelMapped, NoChannel, NoSuchName}
 use Rattle.dev_types.specs.declared.values.Value.{Value}
 use Rattle.dev_types.specs.declared.values.Value.TheVariants as value
-use Rattle.kind_tables.specs.Kinds.{kind_of, subtypes_of, type_of_kind}
+use Rattle.kind_tables.specs.Kinds.{is_same_type, kind_of, subtypes_of, type_of_kind}
 use Rattle.kind_tables.specs.Rows.{row_of}
-use Rattle.kind_tables.specs.SceneObjects.{Block, objects_in}
+use Rattle.kind_tables.specs.SceneObjects.{objects_in}
 use Rattle.kind_tables.specs.WalkRefusals.{fault_of, first_answer, first_mapped, walk_refusal}
 use Rattle.kind_tables.specs.Walks.{Visit, walk}
 use Rattle.kind_tables.specs.declared.kinds.Kind.{Kind}
-use Rattle.kind_tables.specs.declared.kinds.Kind.TheVariants.{Array, FrameDefault, WorldDefault}
+use Rattle.kind_tables.specs.declared.kinds.Kind.TheVariants.{FrameDefault, WorldDefault}
 use Rattle.kind_tables.specs.declared.rows.Row.{Row}
 use Rattle.seq_model.specs.Histories.{public}
 use Rattle.seq_model.specs.Pictures.{has_channel, tiles_at}
-use Rattle.seq_model.specs.State.{ArrayState, Object, ParameterLoan, Phase, Empty, Flight, Done, State, array_loan, object_at, scene_objects}
+use Rattle.seq_model.specs.State.{ArrayState, ParameterLoan, Phase, Empty, Flight, Done, State, array_loan, object_at, scene_objects}
 use Rattle.seq_model.specs.Steps.{Past}
 use Rattle.seq_model.specs.declared.calls.Call.{Call}
 use Rattle.seq_model.specs.declared.calls.Call.TheVariants.{NewObject, NewArray, Retain, Release, SetParameter, UnsetParameter, UnsetAll, Commit, MapArray, UnmapArray, MapParameterArray, UnmapParameterArray, RenderFrame, FrameReady, DiscardFrame, MapFrame, UnmapFrame, GetProperty, Subtypes, ObjectInfo, ParameterInfo}
-
--- a refusal, where it applies
-abbrev pub where_ : Bool → Refused → Option Refused
-where_ applies refused = if applies then Some refused else None
 
 -- the first of some refusals that applies
 abbrev pub first_of : List (Option Refused) → Option Refused
 first_of refusals = first_answer (λ refused. refused) refusals
 
--- the same type, the same kind
-abbrev pub is_same_type : DataType → DataType → Bool
-is_same_type t u = type_number t == type_number u
-
 -- what the objects of a past are asked: whether one is there, is held by the application, and has a type
 abbrev pub dead : Past → ℕ → Option Refused
-dead past h = where_ (is_none (object_at past.state h)) (BadHandle h)
+dead past h = then_some (is_none (object_at past.state h)) (BadHandle h)
 
 abbrev pub not_held : Past → ℕ → Option Refused
-not_held past h = where_ (public past.seen h == 0) (NotHeld h)
+not_held past h = then_some (public past.seen h == 0) (NotHeld h)
 
 abbrev pub has_type : Past → ℕ → DataType → Bool
 has_type past h t = option_map_or (λ o. is_same_type (type_of_kind o.kind) t) (object_at past.state h) false
 
 abbrev pub wrong_kind : Past → ℕ → DataType → Option Refused
-wrong_kind past h t = where_ (not (has_type past h t)) (WrongKind h)
+wrong_kind past h t = then_some (not (has_type past h t)) (WrongKind h)
 
 -- the object of a call is there and held
 abbrev pub own : Past → ℕ → List (Option Refused)
@@ -73,12 +66,15 @@ abbrev pub is_wrong_length : Origin → ℕ → ℕ → Bool
 is_wrong_length Managed needed given = nat_lt 0 given
 is_wrong_length _ needed given = nat_lt given needed
 
+-- the elements of an array overlap, or take too many bytes
+abbrev pub is_bad_layout : DataType → ℕ → ℕ → Bool
+is_bad_layout elem count stride =
+    nat_lt stride (byte_size elem) || nat_lt most_bytes stride || nat_lt most_bytes (needed_length elem stride count)
+
 -- the shape of an array is one that no array may have
 abbrev pub is_bad_shape : DataType → ℕ → ℕ → Origin → List ℕ → Bool
 is_bad_shape elem count stride origin bytes =
-    nat_lt stride (byte_size elem)
-    || nat_lt most_bytes stride
-    || nat_lt most_bytes (needed_length elem stride count)
+    is_bad_layout elem count stride
     || nat_lt most_bytes (length bytes)
     || is_wrong_length origin (needed_length elem stride count) (length bytes)
 
@@ -101,11 +97,6 @@ refusals_of_new_array past elem count stride origin bytes =
 abbrev pub object_of_value : Value → Option ℕ
 object_of_value (value.Object _ h) = Some h
 object_of_value _ = None
-
--- the value is an object of a type that is no object type
-abbrev pub is_ill_typed : Value → Bool
-is_ill_typed (value.Object t _) = not (is_object_type t)
-is_ill_typed _ = false
 
 -- the value is an object of another type than it says
 abbrev pub wrong_value : Past → Value → Option Refused
@@ -134,12 +125,12 @@ refusals_of_set past h name v =
     not_held past h ∷
     option_and_then (not_held past) (object_of_value v) ∷
     wrong_value past v ∷
-    where_ (is_ill_typed v || option_map_or (λ row. not (permits past row v)) (row_at past h name) false) BadType ∷
-    where_ (is_none (row_at past h name) && is_some (object_of_value v)) UnknownObjectParameter ∷ []
+    then_some (not (is_well_typed v) || option_map_or (λ row. not (permits past row v)) (row_at past h name) false) BadType ∷
+    then_some (is_none (row_at past h name) && is_some (object_of_value v)) UnknownObjectParameter ∷ []
 
 -- the array is mapped
 abbrev pub array_mapped : Past → ℕ → Option Refused
-array_mapped past h = where_ (is_some (option_and_then array_loan (object_at past.state h))) (ArrayMapped h)
+array_mapped past h = then_some (is_some (option_and_then array_loan (object_at past.state h))) (ArrayMapped h)
 
 -- a loan of this number is out, of an array with so many bytes
 abbrev pub is_array_out : ℕ → ℕ → ArrayState → Bool
@@ -158,7 +149,7 @@ is_parameter_loan_out s h name number len =
 
 -- a channel of a frame was lent under this number
 abbrev pub is_channel_out : State → ℕ → ℕ → Bool
-is_channel_out s h number = option_map_or (λ o. list_any (λ m. m.1 == number) o.mapped) (object_at s h) false
+is_channel_out s h number = option_map_or (λ o. list_any (λ m. m.1 == number) o.channels) (object_at s h) false
 
 -- the row takes arrays of these elements
 abbrev pub takes_arrays_of : DataType → Row → Bool
@@ -167,9 +158,9 @@ takes_arrays_of elem row = is_same_type row.ty ty.Array1D && option_map_or (is_s
 abbrev pub refusals_of_map_parameter : Past → ℕ → List ℕ → DataType → ℕ → List (Option Refused)
 refusals_of_map_parameter past h name elem count =
     own past h ++
-    where_ (not (is_element_type elem) || option_map_or (λ row. not (takes_arrays_of elem row)) (row_at past h name) false) BadType ∷
-    where_ (is_none (row_at past h name)) UnknownObjectParameter ∷
-    where_ (nat_lt most_bytes (count * byte_size elem)) BadShape ∷ []
+    then_some (not (is_element_type elem) || option_map_or (λ row. not (takes_arrays_of elem row)) (row_at past h name) false) BadType ∷
+    then_some (is_none (row_at past h name)) UnknownObjectParameter ∷
+    then_some (nat_lt most_bytes (count * byte_size elem)) BadShape ∷ []
 
 -- what a frame has to show
 abbrev pub phase_at : Past → ℕ → Phase
@@ -187,22 +178,22 @@ no_picture _ = None
 
 -- the frame did not ask for the channel where it was rendered
 abbrev pub no_channel : Past → Phase → Channel → Option Refused
-no_channel past (Done t) c = where_ (not (has_channel past.seen t c)) NoChannel
+no_channel past (Done t) c = then_some (not (has_channel past.seen t c)) NoChannel
 no_channel past _ c = None
 
 -- the channels of a frame that are mapped
 abbrev pub mapped_at : Past → ℕ → List (Channel × ℕ)
-mapped_at past h = option_map_or (λ o. o.mapped) (object_at past.state h) []
+mapped_at past h = option_map_or (λ o. o.channels) (object_at past.state h) []
 
 abbrev pub is_same_channel : Channel → Channel → Bool
 is_same_channel c d = bytes_eq (name_of_channel c) (name_of_channel d)
 
 -- some channel of the frame is mapped, and this one is
 abbrev pub some_channel_mapped : Past → ℕ → Option Refused
-some_channel_mapped past h = where_ (nat_lt 0 (length (mapped_at past h))) ChannelMapped
+some_channel_mapped past h = then_some (nat_lt 0 (length (mapped_at past h))) ChannelMapped
 
 abbrev pub this_channel_mapped : Past → ℕ → Channel → Option Refused
-this_channel_mapped past h c = where_ (list_any (λ m. is_same_channel m.0 c) (mapped_at past h)) ChannelMapped
+this_channel_mapped past h c = then_some (list_any (λ m. is_same_channel m.0 c) (mapped_at past h)) ChannelMapped
 
 -- what a walk from an object of a past visits
 abbrev pub walk_at : Past → ℕ → List Visit
@@ -224,28 +215,27 @@ refusals_of_map_frame past h c =
     this_channel_mapped past h c ∷
     no_channel past (phase_at past h) c ∷ []
 
--- the properties of an object of a kind, or of the device: the bounds of a world want a walk, and a name that is no property is refused
-abbrev pub refusal_of_property : Past → ℕ → Option Kind → List ℕ → Option Refused
-refusal_of_property past h None name = where_ (not (bytes_eq name (codes "version"))) NoSuchName
-refusal_of_property past h (Some WorldDefault) name =
+-- the properties of an object of a kind: the bounds of a world want a walk, and a name that is no property is refused
+abbrev pub refusal_of_property : Past → ℕ → Kind → List ℕ → Option Refused
+refusal_of_property past h WorldDefault name =
     if bytes_eq name (codes "bounds") then walk_refusal (scene_objects past.state) (walk_at past h) else Some NoSuchName
-refusal_of_property past h (Some FrameDefault) name = where_ (not (bytes_eq name (codes "renderProgress"))) NoSuchName
-refusal_of_property past h (Some _) name = Some NoSuchName
+refusal_of_property past h FrameDefault name = then_some (not (bytes_eq name (codes "renderProgress"))) NoSuchName
+refusal_of_property past h _ name = Some NoSuchName
 
--- handle 0 stands for the device, and is not asked whether it lives
+-- handle 0 stands for the device, which tells its version and is not asked whether it lives
 abbrev pub refusals_of_query : Past → ℕ → List ℕ → List (Option Refused)
-refusals_of_query past zero name = refusal_of_property past 0 None name ∷ []
+refusals_of_query past zero name = then_some (not (bytes_eq name (codes "version"))) NoSuchName ∷ []
 refusals_of_query past (suc h) name =
-    own past (suc h) ++ refusal_of_property past (suc h) (option_map (λ o. o.kind) (object_at past.state (suc h))) name ∷ []
+    own past (suc h) ++ option_and_then (λ o. refusal_of_property past (suc h) o.kind name) (object_at past.state (suc h)) ∷ []
 
 -- a parameter of a kind, if there is such a kind
 abbrev pub refusal_of_info : Option Kind → List ℕ → Option Refused
 refusal_of_info None name = Some BadSubtype
-refusal_of_info (Some kind) name = where_ (is_none (row_of kind name)) NoSuchName
+refusal_of_info (Some kind) name = then_some (is_none (row_of kind name)) NoSuchName
 
 -- the refusals of a call, in the order in which they are asked
 unfoldable pub refusals_of : Past → Call → List (Option Refused)
-refusals_of past (NewObject t subtype) = where_ (is_none (kind_of t subtype)) BadSubtype ∷ []
+refusals_of past (NewObject t subtype) = then_some (is_none (kind_of t subtype)) BadSubtype ∷ []
 refusals_of past (NewArray elem count stride origin bytes) = refusals_of_new_array past elem count stride origin bytes
 refusals_of past (Retain h) = own past h
 refusals_of past (Release h) = own past h
@@ -254,18 +244,18 @@ refusals_of past (UnsetParameter h name) = own past h
 refusals_of past (UnsetAll h) = own past h
 refusals_of past (Commit h) = own past h
 refusals_of past (MapArray h) = own_of_type past h ty.Array1D ++ array_mapped past h ∷ []
-refusals_of past (UnmapArray h number bytes) = where_ (not (is_array_loan_out past.state h number (length bytes))) NotMapped ∷ []
+refusals_of past (UnmapArray h number bytes) = then_some (not (is_array_loan_out past.state h number (length bytes))) NotMapped ∷ []
 refusals_of past (MapParameterArray h name elem count) = refusals_of_map_parameter past h name elem count
 refusals_of past (UnmapParameterArray h name number bytes) =
-    where_ (not (is_parameter_loan_out past.state h name number (length bytes))) NotMapped ∷ []
+    then_some (not (is_parameter_loan_out past.state h name number (length bytes))) NotMapped ∷ []
 refusals_of past (RenderFrame h) = refusals_of_render past h
 refusals_of past (FrameReady h wait) = own_of_type past h ty.Frame ++ no_picture (phase_at past h) ∷ []
 refusals_of past (DiscardFrame h) = own_of_type past h ty.Frame ++ some_channel_mapped past h ∷ []
 refusals_of past (MapFrame h c) = refusals_of_map_frame past h c
-refusals_of past (UnmapFrame h number) = where_ (not (is_channel_out past.state h number)) NotMapped ∷ []
+refusals_of past (UnmapFrame h number) = then_some (not (is_channel_out past.state h number)) NotMapped ∷ []
 refusals_of past (GetProperty h name) = refusals_of_query past h name
-refusals_of past (Subtypes t) = where_ (length (subtypes_of t) == 0) NoSuchName ∷ []
-refusals_of past (ObjectInfo t subtype) = where_ (is_none (kind_of t subtype)) BadSubtype ∷ []
+refusals_of past (Subtypes t) = then_some (length (subtypes_of t) == 0) NoSuchName ∷ []
+refusals_of past (ObjectInfo t subtype) = then_some (is_none (kind_of t subtype)) BadSubtype ∷ []
 refusals_of past (ParameterInfo t subtype name) = refusal_of_info (kind_of t subtype) name ∷ []
 
 -- the refusal of a call, if one applies

@@ -1,10 +1,11 @@
 -- The state of a device: its objects by their handles, the flights that were stopped, and the next handle.
-use Rattle.std.specs.Prelude.{ℕ, ◌+◌, Bool, List, [], ◌∷◌, ◌++◌, Option, Some, None, map}
+use Rattle.std.specs.Prelude.{ℕ, ◌+◌, ◌==◌, Bool, false, List, [], ◌∷◌, ◌++◌, Option, Some, None, map}
 use Rattle.std.specs.BTreeMap.{is_at}
-use Rattle.std.specs.List.{filter_map}
+use Rattle.std.specs.List.{filter_map, find}
 use Rattle.std.specs.Map.{lookup, set_value}
-use Rattle.std.specs.Option.{is_some, option_and_then, option_map, unwrap_or}
+use Rattle.std.specs.Option.{is_some, option_and_then, option_map, option_map_or, unwrap_or}
 use Rattle.std.specs.Ordering.{nat_cmp}
+use Rattle.dev_types.specs.DataTypes.{byte_size}
 use Rattle.dev_types.specs.declared.data_types.DataType.{DataType}
 use Rattle.dev_types.specs.declared.handles.Channel.{Channel}
 use Rattle.dev_types.specs.declared.handles.Origin.{Origin}
@@ -26,6 +27,18 @@ pub record ParameterLoan : Type 0 where
   pub elem : DataType
   pub count : ℕ
 
+-- the content that a parameter array has with these bytes: its elements without gaps
+abbrev pub content_of_loan : ParameterLoan → List ℕ → Block
+content_of_loan loan bytes = record { elem = loan.elem; count = loan.count; stride = byte_size loan.elem; bytes = bytes }
+
+-- the loan with this number
+abbrev pub parameter_loan : ℕ → List ParameterLoan → Option ParameterLoan
+parameter_loan number loans = find (λ loan. loan.number == number) loans
+
+-- the same elements with other bytes
+abbrev pub with_bytes : List ℕ → Block → Block
+with_bytes bytes b = record { elem = b.elem; count = b.count; stride = b.stride; bytes = bytes }
+
 -- an array: its content, where its memory comes from, and the place of the entry that lent it, while it is mapped
 pub record ArrayState : Type 0 where
   pub block : Block
@@ -41,7 +54,7 @@ pub record Object : Type 0 where
   pub parameter_loans : List ParameterLoan
   pub array : Option ArrayState
   pub phase : Phase
-  pub mapped : List (Channel × ℕ)
+  pub channels : List (Channel × ℕ)
 
 -- the objects by rising handle; the tickets of the flights that were stopped and have not left yet; and the handle of the next creation
 pub record State : Type 0 where
@@ -81,6 +94,10 @@ scene_objects s = map (λ entry. (entry.0, scene_object entry.1)) s.objects
 abbrev pub ticket_in : Phase → Option ℕ
 ticket_in (Flight t) = Some t
 ticket_in _ = None
+
+-- the object is a frame in flight with this ticket
+abbrev pub is_in_flight : ℕ → Object → Bool
+is_in_flight t o = option_map_or (λ u. u == t) (ticket_in o.phase) false
 
 -- the tickets of all flights: of the frames in flight, and those that were stopped
 abbrev pub flights : State → List ℕ

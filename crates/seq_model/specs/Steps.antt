@@ -1,28 +1,26 @@
 -- What each entry of a history does to the state (ANARI 1.0 Specification, the calls of the API).
-use Rattle.std.specs.Prelude.{ℕ, ◌+◌, ◌==◌, not, nat_le, Bool, true, false, List, [], ◌∷◌, ◌++◌, Option, Some, None, fold, length, map, replicate, if◌then◌else◌}
+use Rattle.std.specs.Prelude.{ℕ, ◌+◌, ◌==◌, not, Bool, List, [], ◌∷◌, ◌++◌, Option, Some, None, fold, length, map, replicate, if◌then◌else◌}
 use Rattle.std.specs.BTreeMap.{insert_entry, is_at}
 use Rattle.std.specs.Cmp.Lexicographic.{slice_cmp}
-use Rattle.std.specs.List.{filter, find, list_any}
+use Rattle.std.specs.List.{filter, list_any}
 use Rattle.std.specs.Map.{lookup, remove_entry}
-use Rattle.std.specs.Option.{option_and_then, option_map, unwrap_or}
+use Rattle.std.specs.Option.{option_and_then, option_map, option_map_or, unwrap_or}
 use Rattle.std.specs.Ordering.{nat_cmp}
 use Rattle.dev_types.specs.Blocks.{needed_length}
-use Rattle.dev_types.specs.DataTypes.{byte_size}
 use Rattle.dev_types.specs.declared.data_types.DataType.{DataType}
 use Rattle.dev_types.specs.declared.data_types.DataType.TheVariants as ty
 use Rattle.dev_types.specs.declared.handles.Channel.{Channel}
 use Rattle.dev_types.specs.declared.handles.Origin.{Origin}
-use Rattle.dev_types.specs.declared.handles.Origin.TheVariants.{Captured, Shared, Managed}
+use Rattle.dev_types.specs.declared.handles.Origin.TheVariants.{Managed}
 use Rattle.dev_types.specs.declared.values.Value.{Value}
 use Rattle.dev_types.specs.declared.values.Value.TheVariants as value
 use Rattle.kind_tables.specs.Kinds.{kind_of}
-use Rattle.kind_tables.specs.SceneObjects.{Block}
 use Rattle.kind_tables.specs.Walks.{visited, walk}
 use Rattle.kind_tables.specs.declared.kinds.Kind.{Kind}
 use Rattle.kind_tables.specs.declared.kinds.Kind.TheVariants.{Array}
 use Rattle.seq_model.specs.Histories.{History, public, rendered}
 use Rattle.seq_model.specs.Life.{has, is_root, live}
-use Rattle.seq_model.specs.State.{ArrayState, Object, ParameterLoan, Phase, Empty, Flight, Done, State, changed_at, empty, flights, scene_objects, ticket_in, with_object}
+use Rattle.seq_model.specs.State.{ArrayState, Object, ParameterLoan, Phase, Empty, Flight, Done, State, changed_at, content_of_loan, empty, flights, is_in_flight, object_at, parameter_loan, scene_objects, with_bytes, with_object}
 use Rattle.seq_model.specs.declared.calls.Call.{Call}
 use Rattle.seq_model.specs.declared.calls.Call.TheVariants.{NewObject, NewArray, SetParameter, UnsetParameter, UnsetAll, Commit, MapArray, UnmapArray, MapParameterArray, UnmapParameterArray, RenderFrame, DiscardFrame, MapFrame, UnmapFrame}
 use Rattle.seq_model.specs.declared.calls.Entry.{Entry}
@@ -32,7 +30,7 @@ use Rattle.seq_model.specs.declared.calls.Reply.TheVariants as reply
 
 -- an object as it is made
 abbrev pub fresh : Kind → Option ArrayState → Object
-fresh kind array = record { kind = kind; staged = []; committed = []; parameter_loans = []; array = array; phase = Empty; mapped = [] }
+fresh kind array = record { kind = kind; staged = []; committed = []; parameter_loans = []; array = array; phase = Empty; channels = [] }
 
 -- so many bytes 0
 abbrev pub zeros : ℕ → List ℕ
@@ -63,7 +61,7 @@ abbrev pub lent : ℕ → ArrayState → ArrayState
 lent place a = record { block = a.block; origin = a.origin; loan = Some place }
 
 abbrev pub holding : List ℕ → ArrayState → ArrayState
-holding bytes a = record { block = record { elem = a.block.elem; count = a.block.count; stride = a.block.stride; bytes = bytes }; origin = a.origin; loan = None }
+holding bytes a = record { block = with_bytes bytes a.block; origin = a.origin; loan = None }
 
 -- what a call that had its way does to its object
 abbrev pub set_staged : (List (List ℕ × Value) → List (List ℕ × Value)) → Object → Object
@@ -85,10 +83,10 @@ abbrev pub set_phase : Phase → Object → Object
 set_phase phase o = record o { phase = phase }
 
 abbrev pub map_channel : Channel → ℕ → Object → Object
-map_channel channel place o = record o { mapped = o.mapped ++ (channel, place) ∷ [] }
+map_channel channel place o = record o { channels = o.channels ++ (channel, place) ∷ [] }
 
 abbrev pub unmap_channel : ℕ → Object → Object
-unmap_channel number o = record o { mapped = filter (λ m. not (m.1 == number)) o.mapped }
+unmap_channel number o = record o { channels = filter (λ m. not (m.1 == number)) o.channels }
 
 -- the ticket of a frame that is in flight joins those that were stopped
 abbrev pub stop : Phase → State → State
@@ -97,29 +95,17 @@ stop _ s = s
 
 -- a frame that is discarded, with its flight, if it is in flight
 unfoldable pub discard : ℕ → State → State
-discard h s =
-    stop (unwrap_or (option_map (λ o. o.phase) (lookup (is_at (nat_cmp h)) s.objects)) Empty) (changed_at h (set_phase Empty) s)
+discard h s = stop (option_map_or (λ o. o.phase) (object_at s h) Empty) (changed_at h (set_phase Empty) s)
 
--- the element type of a parameter array that is out
-abbrev pub elem_of_loan : ℕ → List ParameterLoan → Option ParameterLoan
-elem_of_loan number loans = find (λ loan. loan.number == number) loans
-
--- a parameter array that comes back: it becomes a managed array, without gaps, and the staged value of its parameter
+-- a parameter array that comes back: it becomes a managed array, and the staged value of its parameter
 unfoldable pub take_in : ℕ → List ℕ → List ℕ → ParameterLoan → State → State
 take_in h name bytes loan s =
-    with_object (record (fresh_array loan.elem loan.count (byte_size loan.elem) Managed []) {
-      array = Some (record {
-        block = record { elem = loan.elem; count = loan.count; stride = byte_size loan.elem; bytes = bytes };
-        origin = Managed;
-        loan = None;
-      });
-    })
+    with_object (fresh (Array loan.elem) (Some (record { block = content_of_loan loan bytes; origin = Managed; loan = None })))
     (changed_at h (set_staged (with_value name (value.Object ty.Array1D s.next))) (changed_at h (end_parameter_loan loan.number) s))
 
 unfoldable pub unmap_parameter : ℕ → List ℕ → ℕ → List ℕ → State → State
 unmap_parameter h name number bytes s =
-    unwrap_or (option_map (λ loan. take_in h name bytes loan s)
-    (option_and_then (λ o. elem_of_loan number o.parameter_loans) (lookup (is_at (nat_cmp h)) s.objects))) s
+    option_map_or (λ loan. take_in h name bytes loan s) (option_and_then (λ o. parameter_loan number o.parameter_loans) (object_at s h)) s
 
 -- what the call at a place does to the state by its reply. Retain and release act through the count of public references alone; a call
 -- that was refused, a ready and a query do nothing
@@ -143,7 +129,7 @@ effect place _ _ s = s
 
 -- a frame whose flight ended
 unfoldable pub end_flight : ℕ → Phase → Object → Object
-end_flight t phase o = if has t (unwrap_or (option_map (λ u. u ∷ []) (ticket_in o.phase)) []) then set_phase phase o else o
+end_flight t phase o = if is_in_flight t o then set_phase phase o else o
 
 unfoldable pub end_flights : ℕ → Phase → State → State
 end_flights t phase s = record s { objects = map (λ entry. (entry.0, end_flight t phase entry.1)) s.objects }

@@ -1,9 +1,9 @@
 -- What the application is told: a status for each call that was refused, and the end of each array whose memory it gave (ANARI 1.0
 -- Specification, array memory and status callbacks).
-use Rattle.std.specs.Prelude.{ℕ, zero, suc, ◌+◌, not, List, [], ◌∷◌, ◌++◌, Option, Some, None, length}
+use Rattle.std.specs.Prelude.{ℕ, not, List, [], ◌∷◌, ◌++◌, Option, Some, None}
 use Rattle.std.specs.List.{filter, filter_map}
 use Rattle.std.specs.Map.{keys_of}
-use Rattle.std.specs.Option.{option_and_then, option_map}
+use Rattle.std.specs.Option.{option_and_then, option_map, option_to_list}
 use Rattle.dev_types.specs.Refusals.{status_of}
 use Rattle.dev_types.specs.declared.handles.Origin.{Origin}
 use Rattle.dev_types.specs.declared.handles.Origin.TheVariants.{Captured, Shared, Managed}
@@ -11,7 +11,7 @@ use Rattle.dev_types.specs.declared.notices.Notice.{Notice}
 use Rattle.dev_types.specs.declared.notices.Notice.TheVariants.{Deleted, LetGo, Told}
 use Rattle.seq_model.specs.Histories.{History}
 use Rattle.seq_model.specs.Life.{has}
-use Rattle.seq_model.specs.State.{ArrayState, Object, State}
+use Rattle.seq_model.specs.State.{Object, State}
 use Rattle.seq_model.specs.Steps.{Past, change, next_place, start, step}
 use Rattle.seq_model.specs.declared.calls.Call.{Call}
 use Rattle.seq_model.specs.declared.calls.Call.TheVariants.{NewObject, NewArray, Retain, Release, SetParameter, UnsetParameter, UnsetAll, Commit, MapArray, UnmapArray, MapParameterArray, UnmapParameterArray, RenderFrame, FrameReady, DiscardFrame, MapFrame, UnmapFrame, GetProperty, Subtypes, ObjectInfo, ParameterInfo}
@@ -43,14 +43,9 @@ source_of (Subtypes _) = 0
 source_of (ObjectInfo _ _) = 0
 source_of (ParameterInfo _ _ _) = 0
 
--- one item, where there is one
-abbrev pub listed : {A : Type 0} → Option A → List A
-listed None = []
-listed (Some x) = x ∷ []
-
 -- the status of a refused call
 abbrev pub status_at : Entry → List Notice
-status_at (Called _ call (reply.Denied refused)) = listed (option_map Told (status_of refused (source_of call)))
+status_at (Called _ call (reply.Denied refused)) = option_to_list (option_map Told (status_of refused (source_of call)))
 status_at _ = []
 
 -- the end of an array by where its memory came from: captured bytes go to their deleter, shared ones are let go, of managed ones nothing
