@@ -1,5 +1,5 @@
 -- The objects of a device as a scene sees them, and the values of their parameters (ANARI 1.0 Specification, object parameters and commit).
-use Rattle.std.specs.Prelude.{ℕ, ℤ, zero, suc, pos, Bool, List, [], Option, Some, None, map, slice_index_or}
+use Rattle.std.specs.Prelude.{ℕ, ℤ, zero, suc, pos, Bool, List, [], ◌∷◌, Option, Some, None, map, slice_index_or}
 use Rattle.std.specs.BTreeMap.{is_at}
 use Rattle.std.specs.Cmp.Lexicographic.{slice_cmp}
 use Rattle.std.specs.List.{range_with_len}

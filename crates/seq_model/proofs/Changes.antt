@@ -3,7 +3,7 @@ use Rattle.std.proofs.Common.{ℕ, ◌+◌, ◌==◌, ◌≡◌, ◌∙◌, ◌�
 use Rattle.std.specs.BTreeMap.{is_at}
 use Rattle.std.specs.List.{filter}
 use Rattle.std.specs.Map.{keys_of, set_value}
-use Rattle.std.specs.Option.{option_and_then, option_map, unwrap_or}
+use Rattle.std.specs.Option.{option_and_then, option_map, option_map_or, unwrap_or}
 use Rattle.std.specs.Ordering.{nat_cmp}
 use Rattle.std.proofs.lemmas.Bool.{cases_eq}
 use Rattle.std.proofs.lemmas.Map.{keys-set_value}
@@ -18,8 +18,8 @@ use Rattle.kind_tables.specs.declared.kinds.Kind.{Kind}
 use Rattle.seq_model.proofs.Keys.{at, at_changed, at_unchanged}
 use Rattle.seq_model.specs.Histories.{rendered}
 use Rattle.seq_model.specs.Life.{has}
-use Rattle.seq_model.specs.State.{ArrayState, Object, ParameterLoan, Phase, Empty, Flight, Done, State, changed_at, object_at, with_object}
-use Rattle.seq_model.specs.Steps.{change, change_array, commit, discard, effect, elem_of_loan, end_flights, end_parameter_loan, fresh, fresh_array, holding, lend_parameter, lent, map_channel, set_phase, set_staged, take_in, unmap_channel, unmap_parameter, with_value, without_value}
+use Rattle.seq_model.specs.State.{ArrayState, Object, ParameterLoan, Phase, Empty, Flight, Done, State, changed_at, object_at, parameter_loan, with_object}
+use Rattle.seq_model.specs.Steps.{change, change_array, commit, discard, effect, end_flights, end_parameter_loan, fresh, fresh_array, holding, lend_parameter, lent, map_channel, set_phase, set_staged, take_in, unmap_channel, unmap_parameter, with_value, without_value}
 use Rattle.seq_model.specs.declared.calls.Call.{Call}
 use Rattle.seq_model.specs.declared.calls.Call.TheVariants.{NewObject, NewArray, Retain, Release, SetParameter, UnsetParameter, UnsetAll, Commit, MapArray, UnmapArray, MapParameterArray, UnmapParameterArray, RenderFrame, FrameReady, DiscardFrame, MapFrame, UnmapFrame, GetProperty, Subtypes, ObjectInfo, ParameterInfo}
 use Rattle.seq_model.specs.declared.calls.Entry.{Entry}
@@ -145,7 +145,7 @@ pub data Change (place : ℕ) (e : Entry) (s t : State) : Type 0 where
   Closing : e ≡ Closed → t ≡ record s { objects = [] } → Change place e s t
 
 taken_in : (place : ℕ) (actor : ℕ) (h : ℕ) (name : List ℕ) (number : ℕ) (bytes : List ℕ) (made : ℕ) (s : State) (loan : Option ParameterLoan) →
-    Change place (Called actor (UnmapParameterArray h name number bytes) (reply.Made made)) s (unwrap_or (option_map (λ loan. take_in h name bytes loan s) loan) s)
+    Change place (Called actor (UnmapParameterArray h name number bytes) (reply.Made made)) s (option_map_or (λ loan. take_in h name bytes loan s) loan s)
 unfolding take_in
 taken_in place actor h name number bytes made s None = Quiet refl refl (stays_quiet s)
 taken_in place actor h name number bytes made s (Some loan) =
@@ -175,7 +175,7 @@ call_changes place actor (UnmapArray h number bytes) reply.Done s = Quiet refl r
 call_changes place actor (MapParameterArray h name elem count) (reply.Lent number) s =
     Quiet refl refl (changes_quietly h (lend_parameter (record { number = place; name = name; elem = elem; count = count })) s (λ o. record { kind = refl; phase = refl; captured = refl }))
 call_changes place actor (UnmapParameterArray h name number bytes) (reply.Made made) s =
-    taken_in place actor h name number bytes made s (option_and_then (λ o. elem_of_loan number o.parameter_loans) (object_at s h))
+    taken_in place actor h name number bytes made s (option_and_then (λ o. parameter_loan number o.parameter_loans) (object_at s h))
 call_changes place actor (RenderFrame h) reply.Done s = Rendering h refl refl refl
 call_changes place actor (DiscardFrame h) reply.Done s = Discarding h refl refl refl
 call_changes place actor (MapFrame h channel) (reply.Mapped width height kind rows) s = Quiet refl refl (changes_quietly h (map_channel channel place) s (λ o. record { kind = refl; phase = refl; captured = refl }))

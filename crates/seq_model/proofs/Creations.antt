@@ -8,15 +8,14 @@ use Rattle.dev_types.specs.declared.refusals.Refused.TheVariants.{BadSubtype, No
 use Rattle.kind_tables.specs.Kinds.{kind_of}
 use Rattle.kind_tables.specs.declared.kinds.Kind.{Kind}
 use Rattle.seq_model.proofs.Afters.{after_more}
-use Rattle.seq_model.proofs.Granted.{does_not_apply, first_is_none, granted, loan_is_found, made_is_next, other_reply}
+use Rattle.seq_model.proofs.Granted.{IsGiven, does_not_apply, first_is_none, given, loan_is_found, made_is_next, other_reply}
 use Rattle.seq_model.proofs.Handles.{changed, next_grows, step_state, swept_next}
 use Rattle.seq_model.proofs.Prefixes.{in_place, prefix_is_legal}
-use Rattle.seq_model.specs.Answers.{IsGranted}
 use Rattle.seq_model.specs.Histories.{History}
 use Rattle.seq_model.specs.Legal.{Legal}
 use Rattle.seq_model.specs.Refusals.{is_parameter_out, is_parameter_loan_out, refusal, refusals_of}
-use Rattle.seq_model.specs.State.{Object, ParameterLoan, State, object_at, with_object}
-use Rattle.seq_model.specs.Steps.{Past, after, change, effect, elem_of_loan, fresh, next_place, step, take_in, unmap_parameter}
+use Rattle.seq_model.specs.State.{Object, ParameterLoan, State, object_at, parameter_loan, with_object}
+use Rattle.seq_model.specs.Steps.{Past, after, change, effect, fresh, next_place, step, take_in, unmap_parameter}
 use Rattle.seq_model.specs.declared.calls.Call.{Call}
 use Rattle.seq_model.specs.declared.calls.Call.TheVariants.{NewObject, NewArray, Retain, Release, SetParameter, UnsetParameter, UnsetAll, Commit, MapArray, UnmapArray, MapParameterArray, UnmapParameterArray, RenderFrame, FrameReady, DiscardFrame, MapFrame, UnmapFrame, GetProperty, Subtypes, ObjectInfo, ParameterInfo}
 use Rattle.seq_model.specs.declared.calls.Entry.{Entry}
@@ -48,7 +47,7 @@ loan_of_parameter past h number name bytes none =
     by (Some o) is out = (o, is, sym (ap (λ x. option_map_or (λ o. list_any (is_parameter_out name number (length bytes)) o.parameter_loans) x false) is) ∙ out)
 
 -- one more handle is used
-counts_one : (place made : ℕ) (past : Past) (call : Call) → refusal past call ≡ None → IsGranted past call (reply.Made made) → (effect place call (reply.Made made) past.state).next ≡ past.state.next + 1
+counts_one : (place made : ℕ) (past : Past) (call : Call) → refusal past call ≡ None → IsGiven past call (reply.Made made) → (effect place call (reply.Made made) past.state).next ≡ past.state.next + 1
 unfolding effect unmap_parameter take_in
 counts_one place made past (NewObject t subtype) none given =
     let kind : (kind : Kind) × (kind_of t subtype ≡ Some kind) = kind_is_there past t subtype none in
@@ -57,10 +56,10 @@ counts_one place made past (NewArray elem count stride origin bytes) none given 
 counts_one place made past (UnmapParameterArray h name number bytes) none given =
     let there : (o : Object) × (object_at past.state h ≡ Some o) × (list_any (is_parameter_out name number (length bytes)) o.parameter_loans ≡ true) =
     loan_of_parameter past h number name bytes none in
-    let loan : (loan : ParameterLoan) × (elem_of_loan number there.0.parameter_loans ≡ Some loan) = loan_is_found name number (length bytes) there.0.parameter_loans there.2 in
-    let found : option_and_then (λ (o : Object). elem_of_loan number o.parameter_loans) (object_at past.state h) ≡ Some loan.0 =
-    ap (option_and_then (λ (o : Object). elem_of_loan number o.parameter_loans)) there.1 ∙ loan.1 in
-    ap (λ x. (unwrap_or (option_map (λ loan. take_in h name bytes loan past.state) x) past.state).next) found
+    let loan : (loan : ParameterLoan) × (parameter_loan number there.0.parameter_loans ≡ Some loan) = loan_is_found name number (length bytes) there.0.parameter_loans there.2 in
+    let found : option_and_then (λ (o : Object). parameter_loan number o.parameter_loans) (object_at past.state h) ≡ Some loan.0 =
+    ap (option_and_then (λ (o : Object). parameter_loan number o.parameter_loans)) there.1 ∙ loan.1 in
+    ap (λ x. (option_map_or (λ loan. take_in h name bytes loan past.state) x past.state).next) found
 counts_one place made past (Retain h) none given = absurd (other_reply past (Retain h) made refl given)
 counts_one place made past call none given = absurd (other_reply past call made refl given)
 
@@ -68,10 +67,10 @@ pub made_handle : (history : History) (actor h : ℕ) (call : Call) → Legal (h
     (h ≡ (after history).state.next) × ((after (history ++ Called actor call (reply.Made h) ∷ [])).state.next ≡ h + 1)
 unfolding change
 made_handle history actor h call legal =
-    let given : (refusal (after history) call ≡ None) × IsGranted (after history) call (reply.Made h) =
-    granted (after history) call (reply.Made h) (in_place history (Called actor call (reply.Made h)) [] legal).0 (λ refused is. cc) in
-    let next : h ≡ (after history).state.next = made_is_next (after history) call h given.1 in
-    let one : (changed (after history) (Called actor call (reply.Made h))).next ≡ (after history).state.next + 1 = counts_one (next_place (after history)) h (after history) call given.0 given.1 in
+    let reply_is : (refusal (after history) call ≡ None) × IsGiven (after history) call (reply.Made h) =
+    given (after history) call (reply.Made h) (in_place history (Called actor call (reply.Made h)) [] legal).0 (λ refused is. cc) in
+    let next : h ≡ (after history).state.next = made_is_next (after history) call h reply_is.1 in
+    let one : (changed (after history) (Called actor call (reply.Made h))).next ≡ (after history).state.next + 1 = counts_one (next_place (after history)) h (after history) call reply_is.0 reply_is.1 in
     (next,
     ap (λ (past : Past). past.state.next) (after_more history (Called actor call (reply.Made h)))
     ∙ ap (λ (s : State). s.next) (step_state (after history) (Called actor call (reply.Made h)))

@@ -3,7 +3,7 @@ use Rattle.std.proofs.Common.{ℕ, ◌+◌, ◌==◌, ◌≡◌, ◌<◌, ◌≤
 use Rattle.std.specs.Prelude.{cond, ◌||◌, fold}
 use Rattle.std.specs.List.{filter, filter_map, list_any}
 use Rattle.std.specs.Map.{keys_of}
-use Rattle.std.specs.Option.{option_map, unwrap_or}
+use Rattle.std.specs.Option.{option_map, option_map_or}
 use Rattle.std.specs.BTreeMap.{is_at}
 use Rattle.std.specs.Ordering.{nat_cmp}
 use Rattle.std.proofs.lemmas.Bool.{eqb-true, or_cases}
@@ -12,13 +12,13 @@ use Rattle.seq_model.proofs.Afters.{after_both, after_more, frame_early, frame_l
 use Rattle.seq_model.proofs.Came.{swept_was, ComesFrom, IsNew, Was, PhaseStep, Kept, Emptied, Started, Ended, step_back}
 use Rattle.seq_model.proofs.Changes.{Change, Quiet, Making, Rendering, Discarding, Finishing, Leaving, Closing, IsQuiet, changed_here, entry_changes}
 use Rattle.seq_model.proofs.Handles.{IsRising, change_rises, changed, rises, step_rises, step_state, swept_next}
-use Rattle.seq_model.proofs.Keys.{RisesWithin, at, at_tail, key_here}
+use Rattle.seq_model.proofs.Keys.{at, one_that_passes}
 use Rattle.seq_model.proofs.Prefixes.{in_place}
 use Rattle.seq_model.proofs.Sweeps.{place_after}
 use Rattle.seq_model.specs.Histories.{History, frame_at, rendered}
 use Rattle.seq_model.specs.Legal.{Legal, is_flying}
 use Rattle.seq_model.specs.Life.{has}
-use Rattle.seq_model.specs.State.{Object, Phase, Empty, Flight, Done, State, changed_at, object_at, ticket_in, with_object}
+use Rattle.seq_model.specs.State.{Object, Phase, Empty, Flight, Done, State, changed_at, is_in_flight, object_at, ticket_in, with_object}
 use Rattle.seq_model.specs.Steps.{Past, after, change, discard, effect, end_flights, next_place, set_phase, step, stop, swept}
 use Rattle.seq_model.specs.Tickets.{ticket_of}
 use Rattle.seq_model.specs.declared.calls.Call.TheVariants.{DiscardFrame}
@@ -134,18 +134,18 @@ discarded_stops : (h u : ℕ) (s : State) → has u (discard h s).stopped ≡ tr
 unfolding discard
 discarded_stops h u s is = by (object_at s h) refl (stopped_by _ (changed_at h (set_phase Empty) s) u is)
   where
-    empties : (x : Option Object) (o : Object) → object_at s h ≡ x → at h (stop (unwrap_or (option_map (λ o. o.phase) (object_at s h)) Empty) (changed_at h (set_phase Empty) s)).objects ≡ Some o → o.phase ≡ Empty
-    empties x o was found = of x (sym (ap (option_map (set_phase Empty)) was) ∙ sym (changed_here h (set_phase Empty) s) ∙ ap (at h) (sym (stop_objects (unwrap_or (option_map (λ o. o.phase) (object_at s h)) Empty) (changed_at h (set_phase Empty) s))) ∙ found)
+    empties : (x : Option Object) (o : Object) → object_at s h ≡ x → at h (stop (option_map_or (λ o. o.phase) (object_at s h) Empty) (changed_at h (set_phase Empty) s)).objects ≡ Some o → o.phase ≡ Empty
+    empties x o was found = of x (sym (ap (option_map (set_phase Empty)) was) ∙ sym (changed_here h (set_phase Empty) s) ∙ ap (at h) (sym (stop_objects (option_map_or (λ o. o.phase) (object_at s h) Empty) (changed_at h (set_phase Empty) s))) ∙ found)
       where
         of : (x : Option Object) → option_map (set_phase Empty) x ≡ Some o → o.phase ≡ Empty
         of None is = absurd cc
         of (Some p) is = let same : set_phase Empty p ≡ o = cc in ap (λ (x : Object). x.phase) (sym same)
-    by : (x : Option Object) → object_at s h ≡ x → (has u s.stopped ≡ true) ⊎ (unwrap_or (option_map (λ o. o.phase) (object_at s h)) Empty ≡ Flight u) →
-        (has u s.stopped ≡ true) ⊎ IsDiscarded s (stop (unwrap_or (option_map (λ o. o.phase) (object_at s h)) Empty) (changed_at h (set_phase Empty) s)) u
+    by : (x : Option Object) → object_at s h ≡ x → (has u s.stopped ≡ true) ⊎ (option_map_or (λ o. o.phase) (object_at s h) Empty ≡ Flight u) →
+        (has u s.stopped ≡ true) ⊎ IsDiscarded s (stop (option_map_or (λ o. o.phase) (object_at s h) Empty) (changed_at h (set_phase Empty) s)) u
     by x was (inl old) = inl old
-    by None was (inr phase) = let none : Empty ≡ Flight u = sym (ap (λ x. unwrap_or (option_map (λ o. o.phase) x) Empty) was) ∙ phase in absurd cc
+    by None was (inr phase) = let none : Empty ≡ Flight u = sym (ap (λ x. option_map_or (λ o. o.phase) x Empty) was) ∙ phase in absurd cc
     by (Some p) was (inr phase) =
-        let flew : p.phase ≡ Flight u = sym (ap (λ x. unwrap_or (option_map (λ o. o.phase) x) Empty) was) ∙ phase in
+        let flew : p.phase ≡ Flight u = sym (ap (λ x. option_map_or (λ o. o.phase) x Empty) was) ∙ phase in
         inr (h, p, was, flew, λ o found. empties (Some p) o was found)
 
 ends_keep_stopped : (v : ℕ) (phase : Phase) (s : State) → (end_flights v phase s).stopped ≡ s.stopped
@@ -175,7 +175,7 @@ discards actor h past = refl
 discard_empties : (h : ℕ) (s : State) (o : Object) → object_at (discard h s) h ≡ Some o → o.phase ≡ Empty
 unfolding discard
 discard_empties h s o found =
-    of (object_at s h) (sym (changed_here h (set_phase Empty) s) ∙ ap (at h) (sym (stop_objects (unwrap_or (option_map (λ o. o.phase) (object_at s h)) Empty) (changed_at h (set_phase Empty) s))) ∙ found)
+    of (object_at s h) (sym (changed_here h (set_phase Empty) s) ∙ ap (at h) (sym (stop_objects (option_map_or (λ o. o.phase) (object_at s h) Empty) (changed_at h (set_phase Empty) s))) ∙ found)
   where
     of : (x : Option Object) → option_map (set_phase Empty) x ≡ Some o → o.phase ≡ Empty
     of None is = absurd cc
@@ -187,22 +187,15 @@ ticket_in_flight Empty u is = absurd cc
 ticket_in_flight (Flight t) u is = is
 ticket_in_flight (Done t) u is = absurd cc
 
-pub flying_frame : (u low high : ℕ) (es : List (ℕ × Object)) → RisesWithin low high (keys_of es) → has u (filter_map (λ entry. ticket_in entry.1.phase) es) ≡ true →
-    (k : ℕ) × (o : Object) × (at k es ≡ Some o) × (ticket_in o.phase ≡ Some u)
-flying_frame u low high [] rising flies = absurd cc
-flying_frame u low high (e ∷ es) rising flies = by (ticket_in e.1.phase) refl (λ x. flying_frame u (e.0 + 1) high es rising.1 x)
-  where
-    later : (k : ℕ) × (o : Object) × (at k es ≡ Some o) × (ticket_in o.phase ≡ Some u) → (k : ℕ) × (o : Object) × (at k (e ∷ es) ≡ Some o) × (ticket_in o.phase ≡ Some u)
-    later one = (one.0, one.1, at_tail one.0 high e es one.1 rising.1 one.2, one.3)
-    by : (x : Option ℕ) → ticket_in e.1.phase ≡ x →
-        (has u (filter_map (λ entry. ticket_in entry.1.phase) es) ≡ true → (k : ℕ) × (o : Object) × (at k es ≡ Some o) × (ticket_in o.phase ≡ Some u)) →
-        (k : ℕ) × (o : Object) × (at k (e ∷ es) ≡ Some o) × (ticket_in o.phase ≡ Some u)
-    by None is rest = later (rest (rw is at flies))
-    by (Some v) is rest = of (or_cases (v == u) (has u (filter_map (λ entry. ticket_in entry.1.phase) es)) (rw is at flies))
-      where
-        of : ((v == u) ≡ true) ⊎ (has u (filter_map (λ entry. ticket_in entry.1.phase) es) ≡ true) → (k : ℕ) × (o : Object) × (at k (e ∷ es) ≡ Some o) × (ticket_in o.phase ≡ Some u)
-        of (inl same) = (e.0, e.1, ap (λ t. cond t (Some e.1) (at e.0 es)) (key_here e.0), is ∙ ap Some (eqb-true v u same))
-        of (inr after) = later (rest after)
+flies_with : (u : ℕ) (phase : Phase) → option_map_or (λ t. t == u) (ticket_in phase) false ≡ true → ticket_in phase ≡ Some u
+flies_with u Empty is = absurd cc
+flies_with u (Flight t) is = ap Some (eqb-true t u is)
+flies_with u (Done t) is = absurd cc
+
+flying_frame : (u : ℕ) (s : State) → IsRising s → is_flying s u ≡ true → (k : ℕ) × (o : Object) × (object_at s k ≡ Some o) × (ticket_in o.phase ≡ Some u)
+flying_frame u s rising flies =
+    let one : (k : ℕ) × (o : Object) × (object_at s k ≡ Some o) × (is_in_flight u o ≡ true) = one_that_passes (λ entry. is_in_flight u entry.1) 1 s.next s.objects rising flies in
+    (one.0, one.1, one.2, flies_with u one.1.phase one.3)
 
 stopped_first : (u : ℕ) → has u (after []).state.stopped ≡ true → IsUnseen u (after [])
 unfolding after
@@ -247,7 +240,7 @@ pub stopped_never_finishes : (history further : History) (u : ℕ) → has u (af
 stopped_never_finishes history further u stopped legal =
     let flies : is_flying (after (history ++ further)).state u ≡ true = in_place (history ++ further) (Finished u) [] legal in
     let one : (k : ℕ) × (o : Object) × (object_at (after (history ++ further)).state k ≡ Some o) × (ticket_in o.phase ≡ Some u) =
-    flying_frame u 1 (after (history ++ further)).state.next (after (history ++ further)).state.objects (rises (history ++ further)) flies in
+    flying_frame u (after (history ++ further)).state (rises (history ++ further)) flies in
     (unseen_later history further u (stopped_is_unseen history u stopped)).unseen one.0 one.1 one.2 (ticket_in_flight one.1.phase u one.3)
 
 -- what was discarded is not shown any more

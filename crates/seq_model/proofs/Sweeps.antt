@@ -3,7 +3,7 @@ use Rattle.std.proofs.Common.{ℕ, zero, suc, ◌+◌, ◌==◌, ◌≡◌, ◌<
 use Rattle.std.specs.Prelude.{cond, ◌||◌}
 use Rattle.std.specs.List.{filter, filter_map, flat_map, list_any}
 use Rattle.std.specs.Map.{keys_of}
-use Rattle.std.specs.Option.{option_map, unwrap_or}
+use Rattle.std.specs.Option.{option_map, option_map_or, unwrap_or}
 use Rattle.std.specs.BTreeMap.{is_at}
 use Rattle.std.specs.Ordering.{nat_cmp}
 use Rattle.std.proofs.lemmas.Bool.{cases_eq, eq-eqb, or_left, or_right}
@@ -47,7 +47,7 @@ unfolding walk walk_from
 starts_with s k o found =
     let there : at k (scene_objects s) ≡ Some (scene_object o) = at_map scene_object k s.objects ∙ ap (option_map scene_object) found in
     let visits : walk (scene_objects s) k ≡ visit (at_origin, k) (scene_object o) ∷ flat_map (walk_from 9 (scene_objects s)) (below at_origin (scene_object o)) =
-    ap (λ (x : Option SceneObject). unwrap_or (option_map (λ o. visit (at_origin, k) o ∷ flat_map (walk_from 9 (scene_objects s)) (below at_origin o)) x) []) there in
+    ap (λ (x : Option SceneObject). option_map_or (λ o. visit (at_origin, k) o ∷ flat_map (walk_from 9 (scene_objects s)) (below at_origin o)) x []) there in
     ap (λ vs. has k (visited vs)) visits ∙ or_left (k == k) (has k (visited (flat_map (walk_from 9 (scene_objects s)) (below at_origin (scene_object o))))) (eq-eqb k k refl)
 
 started_reaches : (place k f : ℕ) (p : Object) (r : Option ℕ) (s : State) (reached : List (ℕ × List ℕ)) → r ≡ Some k → at place reached ≡ None → object_at s k ≡ Some p →

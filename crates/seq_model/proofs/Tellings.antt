@@ -3,7 +3,7 @@ use Rattle.std.proofs.Common.{ℕ, ◌+◌, ◌==◌, ◌≡◌, ◌<◌, ◌≤
 use Rattle.std.specs.Prelude.{cond, count_by, ◌&&◌, fold}
 use Rattle.std.specs.List.{filter, filter_map, list_any, sum_by}
 use Rattle.std.specs.Map.{keys_of}
-use Rattle.std.specs.Option.{is_some, option_map, option_or, unwrap_or}
+use Rattle.std.specs.Option.{is_some, option_map, option_or, option_to_list}
 use Rattle.std.specs.BTreeMap.{is_at}
 use Rattle.std.specs.Ordering.{nat_cmp}
 use Rattle.std.proofs.lemmas.Bool.{cases_eq, cases_lt, cond-true, cond-false, eq-eqb, eqb-true, ne_eqb, not-true, and_parts}
@@ -32,7 +32,7 @@ use Rattle.seq_model.specs.Legal.{Legal, IsInPlace}
 use Rattle.seq_model.specs.Life.{grown, has, live}
 use Rattle.seq_model.specs.State.{ArrayState, Object, Phase, Empty, Flight, Done, State, changed_at, object_at, with_object}
 use Rattle.seq_model.specs.Steps.{Past, after, change, discard, end_flight, end_flights, next_place, set_phase, start, step, stop, swept}
-use Rattle.seq_model.specs.Told.{end_of_array, end_of_object, gone, listed, removed, source_of, status_at, told, told_by, told_from}
+use Rattle.seq_model.specs.Told.{end_of_array, end_of_object, gone, removed, source_of, status_at, told, told_by, told_from}
 use Rattle.seq_model.specs.declared.calls.Call.{Call}
 use Rattle.seq_model.specs.declared.calls.Call.TheVariants.{NewArray}
 use Rattle.seq_model.specs.declared.calls.Entry.{Entry}
@@ -110,7 +110,7 @@ deleted_of_ends h low high (e ∷ es) rising =
 no_end_in_status : (h : ℕ) (e : Entry) → deleted h (status_at e) ≡ 0
 no_end_in_status h (Called actor call (reply.Denied refused)) = by (status_of refused (source_of call))
   where
-    by : (x : Option _) → deleted h (listed (option_map Told x)) ≡ 0
+    by : (x : Option _) → deleted h (option_to_list (option_map Told x)) ≡ 0
     by None = refl
     by (Some status) = refl
 no_end_in_status h (Called actor call _) = refl
