@@ -41,7 +41,7 @@ quiet_back : (place : ℕ) (e : Entry) (s t : State) (k : ℕ) (o : Object) → 
 quiet_back place e s t k o quiet found = like_back place e s k o (object_at s k) (object_at t k) refl found (quiet.like k)
 
 -- an object is the new one or an old one
-added : (o : Object) (u : State) (k : ℕ) (p : Object) → object_at (with_object o u) k ≡ Some p → (object_at u k ≡ Some p) ⊎ ((k ≡ u.next) × (p ≡ o))
+pub added : (o : Object) (u : State) (k : ℕ) (p : Object) → object_at (with_object o u) k ≡ Some p → (object_at u k ≡ Some p) ⊎ ((k ≡ u.next) × (p ≡ o))
 added o u k p found = by (object_at u k) refl
   where
     last : at k ((u.next, o) ∷ []) ≡ Some p → (k ≡ u.next) × (p ≡ o)

@@ -10,6 +10,7 @@ pub mod Life
 pub mod Pictures
 pub mod Refusals
 pub mod Room
+pub mod Soundness
 pub mod State
 pub mod Steps
 pub mod Tickets

@@ -151,3 +151,9 @@ pub fn deleters_run_once()
     ensures at_the_close { (history : History) (h : ℕ) → Legal (history ++ Closed ∷ []) →
         count_by (is_deleting h) (told (history ++ Closed ∷ [])) ≡ count_by (is_capturing h) (history ++ Closed ∷ []) }
 {}
+
+/// TEMP
+#[tactic(auto, using(crate::proofs::SoundSteps::after_more))]
+pub fn sound_temp()
+    ensures { (history : History) (e : Entry) → after (history ++ e ∷ []) ≡ step (after history) e }
+{}
