@@ -1,13 +1,17 @@
 pub mod Answers
 pub mod Builds
 pub mod Contents
+pub mod Ends
 pub mod Examples
+pub mod Extensions
 pub mod Histories
 pub mod Legal
 pub mod Life
 pub mod Pictures
 pub mod Refusals
 pub mod Room
+pub mod Soundness
 pub mod State
 pub mod Steps
+pub mod Tickets
 pub mod Told

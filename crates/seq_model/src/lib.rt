@@ -6,6 +6,7 @@
 pub mod calls;
 pub mod examples;
 pub mod journal;
+pub mod laws;
 
 pub use calls::{Call, Entry, Reply};
 pub use journal::Journal;

@@ -1,0 +1,159 @@
+//! What holds of every history: each law is the contract of a function that does nothing.
+ghost use Rattle.std.specs.Prelude.{◌+◌, count_by, List, IsTrue, Bool, ◌≡◌, ℕ, ◌≤◌, ◌<◌, All, length, None, ◌++◌, ◌∷◌, [], Some};
+ghost use Rattle.std.specs.BTreeMap.{is_at};
+ghost use Rattle.std.specs.List.Sorted.{IsStrictlyIncreasing};
+ghost use Rattle.std.specs.Map.{keys_of, lookup};
+ghost use Rattle.std.specs.Ordering.{nat_cmp};
+ghost use Rattle.dev_types.specs.declared.data_types.DataType.{DataType};
+ghost use Rattle.dev_types.specs.declared.refusals.Refused.{Refused};
+ghost use Rattle.kind_tables.specs.Walks.{visited, walk};
+ghost use Rattle.seq_model.specs.Ends.{is_capturing, is_deleting};
+ghost use Rattle.seq_model.specs.Extensions.{let_follow, readings_of};
+ghost use Rattle.seq_model.specs.Histories.{History, frame_at};
+ghost use Rattle.seq_model.specs.Legal.{IsNext, Legal};
+ghost use Rattle.seq_model.specs.Life.{has};
+ghost use Rattle.seq_model.specs.Pictures.{state_before};
+ghost use Rattle.seq_model.specs.State.{Object, object_at, scene_objects};
+ghost use Rattle.seq_model.specs.Steps.{after, step, swept};
+ghost use Rattle.seq_model.specs.Tickets.{ticket_of};
+ghost use Rattle.seq_model.specs.Told.{told};
+ghost use Rattle.seq_model.specs.declared.calls.Call.{Call};
+ghost use Rattle.seq_model.specs.declared.calls.Call.TheVariants.{DiscardFrame, FrameReady, GetProperty, ObjectInfo, ParameterInfo, Subtypes};
+ghost use Rattle.seq_model.specs.declared.calls.Entry.{Entry};
+ghost use Rattle.seq_model.specs.declared.calls.Entry.TheVariants.{Called, Closed, Finished};
+ghost use Rattle.seq_model.specs.declared.calls.Reply.{Reply};
+ghost use Rattle.seq_model.specs.declared.calls.Reply.TheVariants as reply;
+
+/// One more entry is one more step.
+#[tactic(auto, using(crate::proofs::Afters::after_more))]
+pub fn after_is_stepwise()
+    ensures { (history : History) (e : Entry) → after (history ++ e ∷ []) ≡ step (after history) e }
+{}
+
+/// What was seen is the history.
+#[tactic(auto, using(crate::proofs::Afters::seen_is_history))]
+pub fn seen_is_the_history()
+    ensures { (history : History) → (after history).seen ≡ history }
+{}
+
+/// The next handle never falls.
+#[tactic(auto, using(crate::proofs::Handles::next_grows))]
+pub fn next_handle_never_falls()
+    ensures { (history further : History) → (after history).state.next ≤ (after (history ++ further)).state.next }
+{}
+
+/// Handles rise from 1 on, and stay below the next.
+#[tactic(auto, using(crate::proofs::Handles::handles_rise, crate::proofs::Handles::handles_are_used, crate::proofs::Handles::handles_are_below))]
+pub fn handles_rise()
+    ensures rising { (history : History) → IsStrictlyIncreasing (keys_of (after history).state.objects) }
+    ensures from_one { (history : History) → All (λ h. 1 ≤ h) (keys_of (after history).state.objects) }
+    ensures below_next { (history : History) → All (λ h. h < (after history).state.next) (keys_of (after history).state.objects) }
+{}
+
+/// An object that is gone does not come back.
+#[tactic(auto, using(crate::proofs::Came::gone_for_good))]
+pub fn nothing_comes_back()
+    ensures { (history further : History) (h : ℕ) → h < (after history).state.next → object_at (after history).state h ≡ None →
+        object_at (after (history ++ further)).state h ≡ None }
+{}
+
+/// What a flight reached is what the walk of the state before its render visits, and that does not change.
+#[tactic(auto, using(crate::proofs::Reached::reach_is_the_walk, crate::proofs::Reached::reach_of_no_render, crate::proofs::Reached::reach_stays))]
+pub fn reach_is_the_walk()
+    ensures of_renders { (history : History) (t f : ℕ) → frame_at history t ≡ Some f →
+        lookup (is_at (nat_cmp t)) (after history).reached ≡ Some (visited (walk (scene_objects (state_before history t)) f)) }
+    ensures of_nothing_else { (history : History) (t : ℕ) → frame_at history t ≡ None → lookup (is_at (nat_cmp t)) (after history).reached ≡ None }
+    ensures stays { (history further : History) (t : ℕ) → t ≤ length history →
+        lookup (is_at (nat_cmp t)) (after (history ++ further)).reached ≡ lookup (is_at (nat_cmp t)) (after history).reached }
+{}
+
+/// Sweeping twice is sweeping once.
+#[tactic(auto, using(crate::proofs::Sweeps::sweeps_once))]
+pub fn sweeping_twice_is_sweeping_once()
+    ensures { (history : History) → swept history (after history).reached (after history).state ≡ (after history).state }
+{}
+
+/// A call that was refused changes nothing.
+#[tactic(auto, using(crate::proofs::Stills::refused_changes_nothing))]
+pub fn refused_calls_change_nothing()
+    ensures { (history : History) (actor : ℕ) (call : Call) (refused : Refused) →
+        (after (history ++ Called actor call (reply.Denied refused) ∷ [])).state ≡ (after history).state }
+{}
+
+/// A question whether a frame is ready changes nothing, and no query does.
+#[tactic(auto, using(crate::proofs::Stills::ready_changes_nothing, crate::proofs::Stills::property_changes_nothing, crate::proofs::Stills::subtypes_changes_nothing, crate::proofs::Stills::object_info_changes_nothing, crate::proofs::Stills::parameter_info_changes_nothing))]
+pub fn questions_change_nothing()
+    ensures ready { (history : History) (actor h : ℕ) (wait : Bool) (r : Reply) →
+        (after (history ++ Called actor (FrameReady h wait) r ∷ [])).state ≡ (after history).state }
+    ensures property { (history : History) (actor h : ℕ) (name : List ℕ) (r : Reply) →
+        (after (history ++ Called actor (GetProperty h name) r ∷ [])).state ≡ (after history).state }
+    ensures subtypes { (history : History) (actor : ℕ) (t : DataType) (r : Reply) →
+        (after (history ++ Called actor (Subtypes t) r ∷ [])).state ≡ (after history).state }
+    ensures object_info { (history : History) (actor : ℕ) (t : DataType) (subtype : List ℕ) (r : Reply) →
+        (after (history ++ Called actor (ObjectInfo t subtype) r ∷ [])).state ≡ (after history).state }
+    ensures parameter_info { (history : History) (actor : ℕ) (t : DataType) (subtype name : List ℕ) (r : Reply) →
+        (after (history ++ Called actor (ParameterInfo t subtype name) r ∷ [])).state ≡ (after history).state }
+{}
+
+/// What a legal history begins with is legal.
+#[tactic(auto, using(crate::proofs::Prefixes::prefix_is_legal))]
+pub fn prefixes_are_legal()
+    ensures { (history further : History) → Legal (history ++ further) → Legal history }
+{}
+
+/// One more entry may stand behind a legal history just where it is in its place, no reading falls, and every entry lets it follow.
+#[tactic(auto, using(crate::proofs::Prefixes::extension_is_legal, crate::proofs::Prefixes::last_is_next, crate::proofs::Prefixes::last_was_let_follow))]
+pub fn legal_histories_go_on()
+    ensures more { (history : History) (e : Entry) → Legal history → IsNext (after history) (readings_of history) e [] → IsTrue (let_follow history e) →
+        Legal (history ++ e ∷ []) }
+    ensures next { (history : History) (e : Entry) → Legal (history ++ e ∷ []) → IsNext (after history) (readings_of history) e [] }
+    ensures leave { (history : History) (e : Entry) → Legal (history ++ e ∷ []) → IsTrue (let_follow history e) }
+{}
+
+/// The ticket that a frame shows is the place of its render.
+#[tactic(auto, using(crate::proofs::Flights::own_tickets))]
+pub fn tickets_are_renders()
+    ensures { (history : History) (k u : ℕ) (o : Object) → object_at (after history).state k ≡ Some o → ticket_of o.phase ≡ Some u → frame_at history u ≡ Some k }
+{}
+
+/// A flight that was stopped never ends in a picture.
+#[tactic(auto, using(crate::proofs::Flights::stopped_never_finishes))]
+pub fn stopped_flights_never_finish()
+    ensures { (history further : History) (u : ℕ) → IsTrue (has u (after history).state.stopped) → Legal ((history ++ further) ++ Finished u ∷ []) → ⊥ }
+{}
+
+/// The picture that a frame showed, or waited for, when it was discarded is shown by no frame any more.
+#[tactic(auto, using(crate::proofs::Flights::discarded_is_never_mapped))]
+pub fn discarded_pictures_are_gone()
+    ensures { (history further : History) (actor h u : ℕ) (o : Object) → object_at (after history).state h ≡ Some o → ticket_of o.phase ≡ Some u →
+        (k : ℕ) (p : Object) → object_at (after ((history ++ Called actor (DiscardFrame h) reply.Done ∷ []) ++ further)).state k ≡ Some p → ticket_of p.phase ≡ Some u → ⊥ }
+{}
+
+/// A creation makes the next handle.
+#[tactic(auto, using(crate::proofs::Creations::made_handle))]
+pub fn creations_make_the_next_handle()
+    ensures { (history : History) (actor h : ℕ) (call : Call) → Legal (history ++ Called actor call (reply.Made h) ∷ []) →
+        (h ≡ (after history).state.next) × ((after (history ++ Called actor call (reply.Made h) ∷ [])).state.next ≡ h + 1) }
+{}
+
+/// No handle is made twice.
+#[tactic(auto, using(crate::proofs::Creations::made_handles_rise))]
+pub fn no_handle_is_made_twice()
+    ensures { (first second : History) (actor other h k : ℕ) (call further : Call) →
+        Legal (((first ++ Called actor call (reply.Made h) ∷ []) ++ second) ++ Called other further (reply.Made k) ∷ []) → h < k }
+{}
+
+/// The deleter of each captured array runs at most once, and not while the array is there. With the close it has run for each one that was
+/// made.
+pub fn deleters_run_once()
+    ensures at_most_once { (history : History) (h : ℕ) → count_by (is_deleting h) (told history) ≤ 1 }
+    ensures when_gone { (history : History) (h : ℕ) → 0 < count_by (is_deleting h) (told history) → object_at (after history).state h ≡ None }
+    ensures at_the_close { (history : History) (h : ℕ) → Legal (history ++ Closed ∷ []) →
+        count_by (is_deleting h) (told (history ++ Closed ∷ [])) ≡ count_by (is_capturing h) (history ++ Closed ∷ []) }
+{}
+
+/// TEMP
+#[tactic(auto, using(crate::proofs::SoundSteps::after_more))]
+pub fn sound_temp()
+    ensures { (history : History) (e : Entry) → after (history ++ e ∷ []) ≡ step (after history) e }
+{}
