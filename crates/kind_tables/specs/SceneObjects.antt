@@ -1,5 +1,5 @@
 -- The objects of a device as a scene sees them, and the values of their parameters (ANARI 1.0 Specification, object parameters and commit).
-use Rattle.std.specs.Prelude.{ℕ, ℤ, zero, suc, pos, Bool, List, [], Option, Some, None, map, slice_index_or}
+use Rattle.std.specs.Prelude.{ℕ, ℤ, zero, suc, pos, Bool, List, [], ◌∷◌, Option, Some, None, map, slice_index_or}
 use Rattle.std.specs.BTreeMap.{is_at}
 use Rattle.std.specs.Cmp.Lexicographic.{slice_cmp}
 use Rattle.std.specs.List.{range_with_len}
@@ -68,7 +68,7 @@ scalar_in _ = pos 0
 
 abbrev pub scalars_in : Option Value → List ℤ
 scalars_in (Some (ScalarVec3 zs)) = zs
-scalars_in _ = []
+scalars_in _ = pos 0 ∷ pos 0 ∷ pos 0 ∷ []
 
 abbrev pub matrix_in : Option Value → Mat34
 matrix_in (Some (ScalarMat34 zs)) = record { c = zs }

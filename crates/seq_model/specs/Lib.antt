@@ -1,5 +1,6 @@
 pub mod Answers
 pub mod Builds
+pub mod Contents
 pub mod Examples
 pub mod Histories
 pub mod Legal

@@ -66,12 +66,15 @@ abbrev pub is_wrong_length : Origin → ℕ → ℕ → Bool
 is_wrong_length Managed needed given = nat_lt 0 given
 is_wrong_length _ needed given = nat_lt given needed
 
+-- the elements of an array overlap, or take too many bytes
+abbrev pub is_bad_layout : DataType → ℕ → ℕ → Bool
+is_bad_layout elem count stride =
+    nat_lt stride (byte_size elem) || nat_lt most_bytes stride || nat_lt most_bytes (needed_length elem stride count)
+
 -- the shape of an array is one that no array may have
 abbrev pub is_bad_shape : DataType → ℕ → ℕ → Origin → List ℕ → Bool
 is_bad_shape elem count stride origin bytes =
-    nat_lt stride (byte_size elem)
-    || nat_lt most_bytes stride
-    || nat_lt most_bytes (needed_length elem stride count)
+    is_bad_layout elem count stride
     || nat_lt most_bytes (length bytes)
     || is_wrong_length origin (needed_length elem stride count) (length bytes)
 
