@@ -14,11 +14,13 @@ pub spaced_first : (word : List ℕ) (words : List (List ℕ)) → spaced (word 
 spaced_first word [] = sym (append-nil word)
 spaced_first word (next ∷ words) = refl
 
--- the first, the second and the others
-pub spaced_split : (words : List (List ℕ)) → spaced words ≡ first_word words ++ (continued (take 1 (drop 1 words)) ++ continued (drop 2 words))
+-- the first, the second, the third and the others
+pub spaced_split : (words : List (List ℕ))
+    → spaced words ≡ first_word words ++ (continued (take 1 (drop 1 words)) ++ (continued (take 1 (drop 2 words)) ++ continued (drop 3 words)))
 spaced_split [] = refl
 spaced_split (word ∷ []) = sym (append-nil word)
-spaced_split (word ∷ next ∷ words) = ap (λ t. word ++ (codes " " ++ t)) (spaced_first next words)
+spaced_split (word ∷ next ∷ []) = ap (λ t. word ++ (codes " " ++ t)) (sym (append-nil next))
+spaced_split (word ∷ next ∷ third ∷ words) = ap (λ t. word ++ (codes " " ++ (next ++ (codes " " ++ t)))) (spaced_first third words)
 
 -- one more word behind at least one
 join_more : (c : ℕ) (word : List ℕ) (words : List (List ℕ)) (last : List ℕ) → join_with_byte c (word ∷ (words ++ last ∷ [])) ≡ join_with_byte c (word ∷ words) ++ (c ∷ last)

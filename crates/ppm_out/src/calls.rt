@@ -9,14 +9,14 @@ use crate::words::{push_bytes, push_number, push_text, push_value, push_word};
 use dev_types::{Bytes, NoMemory, Origin};
 use std::alloc::Global;
 
-#[tactic(auto, using(crate::proofs::Joined::spaced_split))]
 pub(crate) fn push_call(alloc: Global, call: &CallText, out: &mut Vec<u8>) -> Result<(), NoMemory>
     ensures ok { OnOk result (out.new.items ≡ out.old.items ++ spaced (call_words call.now)) }
     ensures front { KeepsFront out.old.items out.new.items }
 {
     push_text(verb(call), out)?;
     push_subject(alloc, call, out)?;
-    push_details(alloc, call, out)
+    push_argument(alloc, call, out)?;
+    push_others(alloc, call, out)
 }
 
 fn verb(call: &CallText) -> &'static str
@@ -83,59 +83,57 @@ fn push_subject(alloc: Global, call: &CallText, out: &mut Vec<u8>) -> Result<(),
     }
 }
 
-/// The words after the second, with a space before each.
-fn push_details(alloc: Global, call: &CallText, out: &mut Vec<u8>) -> Result<(), NoMemory>
+/// The third word, with a space before it.
+fn push_argument(alloc: Global, call: &CallText, out: &mut Vec<u8>) -> Result<(), NoMemory>
     ensures ok { OnOk result (out.new.items
-        ≡ out.old.items ++ continued (drop 2 (call_words call.now))) }
+        ≡ out.old.items ++ continued (take 1 (drop 2 (call_words call.now)))) }
     ensures front { KeepsFront out.old.items out.new.items }
 {
     match call {
         CallText::NewObject { subtype: word, .. }
         | CallText::ObjectInfo { subtype: word, .. }
+        | CallText::ParameterInfo { subtype: word, .. }
+        | CallText::SetParameter { name: word, .. }
         | CallText::UnsetParameter { name: word, .. }
+        | CallText::MapParameterArray { name: word, .. }
+        | CallText::UnmapParameterArray { name: word, .. }
         | CallText::GetProperty { name: word, .. } => push_word(word.as_str(), out),
-        CallText::ParameterInfo { subtype, name, .. } => {
-            push_word(subtype.as_str(), out)?;
-            push_word(name.as_str(), out)
-        }
+        CallText::NewArray { count: number, .. }
+        | CallText::UnmapArray { number, .. }
+        | CallText::UnmapFrame { number, .. } => push_number(alloc, *number, out),
+        CallText::FrameReady { wait, .. } => push_word(wait_word(*wait), out),
+        CallText::MapFrame { channel, .. } => push_word(channel.name(), out),
+        _ => Ok(()),
+    }
+}
+
+/// The words after the third, with a space before each.
+fn push_others(alloc: Global, call: &CallText, out: &mut Vec<u8>) -> Result<(), NoMemory>
+    ensures ok { OnOk result (out.new.items
+        ≡ out.old.items ++ continued (drop 3 (call_words call.now))) }
+    ensures front { KeepsFront out.old.items out.new.items }
+{
+    match call {
         CallText::NewArray {
-            count,
             stride,
             origin,
             bytes,
             ..
         } => {
-            push_number(alloc, *count, out)?;
             push_number(alloc, *stride, out)?;
             push_memory(alloc, *origin, bytes, out)
         }
-        CallText::SetParameter { name, value, .. } => {
-            push_word(name.as_str(), out)?;
-            push_value(alloc, value, out)
-        }
-        CallText::UnmapArray { number, bytes, .. } => push_content(alloc, *number, bytes, out),
-        CallText::MapParameterArray {
-            name,
-            elem,
-            count,
-            ..
-        } => {
-            push_word(name.as_str(), out)?;
+        CallText::SetParameter { value, .. } => push_value(alloc, value, out),
+        CallText::UnmapArray { bytes, .. } => push_bytes(bytes.as_slice(), out),
+        CallText::MapParameterArray { elem, count, .. } => {
             push_word(elem.name(), out)?;
             push_number(alloc, *count, out)
         }
-        CallText::UnmapParameterArray {
-            name,
-            number,
-            bytes,
-            ..
-        } => {
-            push_word(name.as_str(), out)?;
-            push_content(alloc, *number, bytes, out)
+        CallText::UnmapParameterArray { number, bytes, .. } => {
+            push_number(alloc, *number, out)?;
+            push_bytes(bytes.as_slice(), out)
         }
-        CallText::FrameReady { wait, .. } => push_word(wait_word(*wait), out),
-        CallText::MapFrame { channel, .. } => push_word(channel.name(), out),
-        CallText::UnmapFrame { number, .. } => push_number(alloc, *number, out),
+        CallText::ParameterInfo { name, .. } => push_word(name.as_str(), out),
         _ => Ok(()),
     }
 }
@@ -153,21 +151,6 @@ fn push_memory(
 {
     push_word(origin.word(), out)?;
     push_number(alloc, user_of(origin), out)?;
-    push_bytes(bytes.as_slice(), out)
-}
-
-/// A loan's number, and the bytes that it leaves.
-fn push_content(
-    alloc: Global,
-    number: u64,
-    bytes: &Bytes,
-    out: &mut Vec<u8>,
-) -> Result<(), NoMemory>
-    ensures ok { OnOk result (out.new.items
-        ≡ out.old.items ++ continued (decimal number ∷ hex bytes.now ∷ [])) }
-    ensures front { KeepsFront out.old.items out.new.items }
-{
-    push_number(alloc, number, out)?;
     push_bytes(bytes.as_slice(), out)
 }
 
