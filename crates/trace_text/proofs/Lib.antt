@@ -1,0 +1,5 @@
+pub mod CallFacts
+pub mod ComponentFacts
+pub mod JsonFacts
+pub mod ReadingFacts
+pub mod WholeFacts

@@ -1,0 +1,6 @@
+pub mod Json
+pub mod Components
+pub mod Ops
+pub mod Forms
+pub mod Places
+pub mod Reading
