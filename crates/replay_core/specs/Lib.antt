@@ -1,0 +1,5 @@
+pub mod Examples
+pub mod Follows
+pub mod Labels
+pub mod Loans
+pub mod Solo

@@ -1,0 +1,110 @@
+-- The history of a trace on one thread: phase after phase, the first caller that has a call left makes it, and a flight that is asked for is
+-- finished first.
+use Rattle.std.specs.Prelude.{ℕ, ◌+◌, Bool, List, [], ◌∷◌, ◌++◌, Option, Some, None, fold, length, map, if◌then◌else◌}
+use Rattle.std.specs.List.{enumerate_from, filter, range_with_len}
+use Rattle.std.specs.Option.{option_map, option_map_or, option_to_list, unwrap_or}
+use Rattle.replay_core.specs.Labels.{Binding, Meaning, call_of, handle_of, label_of}
+use Rattle.replay_core.specs.Loans.{opens, unmap_of}
+use Rattle.seq_model.specs.Answers.{answer}
+use Rattle.seq_model.specs.Contents.{entered}
+use Rattle.seq_model.specs.Histories.{History}
+use Rattle.seq_model.specs.Life.{has}
+use Rattle.seq_model.specs.Refusals.{phase_at}
+use Rattle.seq_model.specs.State.{flights, ticket_in}
+use Rattle.seq_model.specs.Steps.{Past, start, step}
+use Rattle.seq_model.specs.declared.calls.Call.{Call}
+use Rattle.seq_model.specs.declared.calls.Call.TheVariants.{DiscardFrame, FrameReady, MapFrame, RenderFrame}
+use Rattle.seq_model.specs.declared.calls.Entry.{Entry}
+use Rattle.seq_model.specs.declared.calls.Entry.TheVariants.{Called, Finished, Left, Closed}
+use Rattle.seq_model.specs.declared.calls.Reply.{Reply}
+use Rattle.seq_model.specs.declared.calls.Reply.TheVariants as reply
+use Rattle.trace_text.specs.declared.calls.Caller.{Caller}
+use Rattle.trace_text.specs.declared.calls.Phase.{Phase}
+use Rattle.trace_text.specs.declared.calls.Trace.{Trace}
+use Rattle.trace_text.specs.declared.calls.TraceCall.{TraceCall}
+use Rattle.trace_text.specs.declared.calls.TraceCall.TheVariants.{EndLoan}
+
+-- where a replay stands: what happened, what the labels of creations were bound to, and the loans that are open, the innermost first, each
+-- with the unmap that ends it where it was granted
+pub record Replay : Type 0 where
+  pub past : Past
+  pub bound : List Binding
+  pub loans : List (Option Call)
+
+-- the flight of a frame that a call asks for
+abbrev pub asked_flight : Past → Call → Option ℕ
+asked_flight past (FrameReady h _) = ticket_in (phase_at past h)
+asked_flight past (MapFrame h _) = ticket_in (phase_at past h)
+asked_flight past (RenderFrame h) = ticket_in (phase_at past h)
+asked_flight past _ = None
+
+-- the flight that a discard stops
+abbrev pub stopped_flight : Past → Call → Reply → Option ℕ
+stopped_flight past (DiscardFrame h) reply.Done = ticket_in (phase_at past h)
+stopped_flight past _ _ = None
+
+-- a past with a note on a flight, where there is one
+abbrev pub with_note : (ℕ → Entry) → Option ℕ → Past → Past
+with_note note t past = option_map_or (λ ticket. step past (note ticket)) t past
+
+-- before a call the flight that it asks for is finished
+abbrev pub ready_for : Past → Call → Past
+ready_for past call = with_note Finished (asked_flight past call) past
+
+-- the reply to a call
+abbrev pub reply_to : Past → Call → Reply
+reply_to past call = unwrap_or (answer past call) reply.Done
+
+-- one call with its reply, and after it the note on a flight that it stopped
+abbrev pub with_call : ℕ → Call → Past → Past
+with_call caller call past =
+    with_note Left (stopped_flight past call (reply_to past call)) (step past (Called caller call (reply_to past call)))
+
+-- the binding that a creation adds, if it was done
+abbrev pub binding_of : ℕ → ℕ → TraceCall → Reply → List Binding
+binding_of phase caller c (reply.Made h) =
+    option_to_list (option_map (λ label. record { label = label; handle = h; phase = phase; caller = caller }) (label_of c))
+binding_of phase caller c _ = []
+
+-- the innermost loan is ended by its unmap, where it was granted
+abbrev pub unmapped : ℕ → Replay → List (Option Call) → Replay
+unmapped caller r [] = r
+unmapped caller r (None ∷ loans) = record r { loans = loans }
+unmapped caller r (Some unmap ∷ loans) = record { past = with_call caller (entered r.past unmap) r.past; bound = r.bound; loans = loans }
+
+-- a call is made after the flight that it asks for is finished
+abbrev pub made : ℕ → ℕ → TraceCall → Meaning → Call → Replay → Replay
+made phase caller c meaning call r =
+    let past = ready_for r.past call in
+    record {
+      past = with_call caller call past;
+      bound = r.bound ++ binding_of phase caller c (reply_to past call);
+      loans = if opens c then unmap_of past meaning c (reply_to past call) ∷ r.loans else r.loans;
+    }
+
+-- one call of a trace
+unfoldable pub replayed : ℕ → ℕ → Replay → TraceCall → Replay
+replayed phase caller r EndLoan = unmapped caller r r.loans
+replayed phase caller r c =
+    let meaning = handle_of r.bound phase caller in
+    option_map_or (λ call. made phase caller c meaning call r) (call_of meaning c) r
+
+-- all calls of a caller, of all callers of a phase, of all phases
+abbrev pub caller_replayed : ℕ → Replay → ℕ × Caller → Replay
+caller_replayed phase r caller = fold (replayed phase caller.0) (record r { loans = [] }) caller.1.calls
+
+abbrev pub phase_replayed : Replay → ℕ × Phase → Replay
+phase_replayed r phase = fold (caller_replayed phase.0) r (enumerate_from 0 phase.1.callers)
+
+abbrev pub trace_replayed : Trace → Replay
+trace_replayed trace = fold phase_replayed (record { past = start; bound = []; loans = [] }) (enumerate_from 0 trace.phases)
+
+-- at the end each flight leaves, by rising ticket, and the device is closed
+abbrev pub ended : Past → Past
+ended past =
+    let open_flights = filter (λ t. has t (flights past.state)) (range_with_len 1 (length past.seen)) in
+    step (fold (λ p t. step p (Left t)) past open_flights) Closed
+
+-- the history of a trace on one thread
+unfoldable pub solo : Trace → History
+solo trace = (ended (trace_replayed trace).past).seen

@@ -1,0 +1,4 @@
+//! Replays of traces: which histories follow a trace, and which one a single thread makes of it.
+#![tactic(auto)]
+
+pub mod examples;
