@@ -182,7 +182,7 @@ discard_empties h s o found =
     of (Some p) is = let same : set_phase Empty p ≡ o = cc in ap (λ (x : Object). x.phase) (sym same)
 
 -- a ticket among those of the frames in flight
-ticket_in_flight : (phase : Phase) (u : ℕ) → ticket_in phase ≡ Some u → ticket_of phase ≡ Some u
+pub ticket_in_flight : (phase : Phase) (u : ℕ) → ticket_in phase ≡ Some u → ticket_of phase ≡ Some u
 ticket_in_flight Empty u is = absurd cc
 ticket_in_flight (Flight t) u is = is
 ticket_in_flight (Done t) u is = absurd cc

@@ -48,6 +48,15 @@ pub first_is_none : (x : Option Refused) (xs : List (Option Refused)) → first_
 first_is_none None xs none = (refl, none)
 first_is_none (Some refused) xs none = absurd cc
 
+-- each of them does not apply
+abbrev pub AllNone : List (Option Refused) → Type 0
+AllNone [] = Unit {0}
+AllNone (x ∷ xs) = (x ≡ None) × AllNone xs
+
+pub all_none : (xs : List (Option Refused)) → first_of xs ≡ None → AllNone xs
+all_none [] none = tt
+all_none (x ∷ xs) none = let both : (x ≡ None) × (first_of xs ≡ None) = first_is_none x xs none in (both.0, all_none xs both.1)
+
 pub does_not_apply : (applies : Bool) (refused : Refused) → then_some applies refused ≡ None → applies ≡ false
 does_not_apply true refused none = absurd cc
 does_not_apply false refused none = refl
@@ -121,7 +130,7 @@ made_is_next past (Retain k) h given = absurd (other_reply past (Retain k) h ref
 made_is_next past call h given = absurd (other_reply past call h refl given)
 
 -- a loan that is out stands among the loans
-find_passes : (p q : ParameterLoan → Bool) (loans : List ParameterLoan) → ((loan : ParameterLoan) → p loan ≡ true → q loan ≡ true) → list_any p loans ≡ true →
+pub find_passes : (p q : ParameterLoan → Bool) (loans : List ParameterLoan) → ((loan : ParameterLoan) → p loan ≡ true → q loan ≡ true) → list_any p loans ≡ true →
     (loan : ParameterLoan) × (find q loans ≡ Some loan) × (q loan ≡ true)
 find_passes p q [] implies some = absurd cc
 find_passes p q (x ∷ loans) implies some = by (q x) refl (λ later. find_passes p q loans implies later)
@@ -137,7 +146,7 @@ find_passes p q (x ∷ loans) implies some = by (q x) refl (λ later. find_passe
             let one : (loan : ParameterLoan) × (find q loans ≡ Some loan) × (q loan ≡ true) = rest later in
             (one.0, ap (λ t. cond t (Some x) (find q loans)) is ∙ one.1, one.2)
 
-out_is_numbered : (name : List ℕ) (number len : ℕ) (loan : ParameterLoan) → is_parameter_out name number len loan ≡ true → (loan.number == number) ≡ true
+pub out_is_numbered : (name : List ℕ) (number len : ℕ) (loan : ParameterLoan) → is_parameter_out name number len loan ≡ true → (loan.number == number) ≡ true
 out_is_numbered name number len loan is =
     (and_parts (loan.number == number) (bytes_eq loan.name name) (and_parts ((loan.number == number) && bytes_eq loan.name name) (loan.count * byte_size loan.elem == len) is).0).0
 

@@ -35,7 +35,7 @@ stop_keeps (Flight t) s = (refl, refl)
 stop_keeps Empty s = (refl, refl)
 stop_keeps (Done t) s = (refl, refl)
 
-rises_as : (s t : State) → keys_of t.objects ≡ keys_of s.objects → t.next ≡ s.next → IsRising s → IsRising t × (s.next ≤ t.next)
+pub rises_as : (s t : State) → keys_of t.objects ≡ keys_of s.objects → t.next ≡ s.next → IsRising s → IsRising t × (s.next ≤ t.next)
 rises_as s t keys next rising =
     (subst (λ ks. RisesWithin 1 t.next ks) (sym keys) (subst (λ n. RisesWithin 1 n (keys_of s.objects)) (sym next) rising), omega (arith, next))
 

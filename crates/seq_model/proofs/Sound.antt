@@ -42,10 +42,10 @@ kind_kept Q s t k keeps holds = by (object_at s k) refl holds
     by None is q = absurd q
     by (Some o) is q = then_ o (object_at t k) q (keeps o is)
 
-has_head : (k : ℕ) (ks : List ℕ) → has k (k ∷ ks) ≡ true
+pub has_head : (k : ℕ) (ks : List ℕ) → has k (k ∷ ks) ≡ true
 has_head k ks = or_left (k == k) (has k ks) (eq-eqb k k refl)
 
-has_tail : (k j : ℕ) (ks : List ℕ) → has k ks ≡ true → has k (j ∷ ks) ≡ true
+pub has_tail : (k j : ℕ) (ks : List ℕ) → has k ks ≡ true → has k (j ∷ ks) ≡ true
 has_tail k j ks is = or_right (j == k) (has k ks) is
 
 has_left : (k : ℕ) (js ks : List ℕ) → has k js ≡ true → has k (js ++ ks) ≡ true
@@ -97,7 +97,7 @@ in_staged o k is = has_left k (objects_of o.staged ++ objects_of o.committed) (o
 in_committed : (o : Object) (k : ℕ) → has k (objects_of o.committed) ≡ true → has k (names_of o) ≡ true
 in_committed o k is = has_left k (objects_of o.staged ++ objects_of o.committed) (objects_of_elements o.array) (has_right k (objects_of o.staged) (objects_of o.committed) is)
 
-in_elements : (o : Object) (k : ℕ) → has k (objects_of_elements o.array) ≡ true → has k (names_of o) ≡ true
+pub in_elements : (o : Object) (k : ℕ) → has k (objects_of_elements o.array) ≡ true → has k (names_of o) ≡ true
 in_elements o k is = has_right k (objects_of o.staged ++ objects_of o.committed) (objects_of_elements o.array) is
 
 -- an object is sound in another state where all that it names is kept
@@ -113,7 +113,7 @@ sound_kept s t o keeps sound = record {
 abbrev pub IsLower : State → Kind → ℕ → Type 0
 IsLower s kind k = IsSomeAnd (object_at s k) (λ o. rank_of o.kind < rank_of kind)
 
-fitting_is_lower : (s : State) (kind : Kind) (name : List ℕ) (k : ℕ) → NamesFitting s kind name k → IsLower s kind k
+pub fitting_is_lower : (s : State) (kind : Kind) (name : List ℕ) (k : ℕ) → NamesFitting s kind name k → IsLower s kind k
 fitting_is_lower s kind name k fits = by (object_at s k) (row_of kind name) refl fits
   where
     by : (x : Option Object) (y : Option Row) → row_of kind name ≡ y → IsSomeAnd x (λ o. IsSomeAnd y (λ row. Takes row o.kind)) → IsSomeAnd x (λ o. rank_of o.kind < rank_of kind)
@@ -182,7 +182,7 @@ all_sound s each h = by (object_at s h) refl
 some_kind : (s : State) (k : ℕ) (o : Object) (x : Option Object) → x ≡ Some o → IsSomeAnd x (λ p. p.kind ≡ o.kind)
 some_kind s k o x is = subst (λ x. IsSomeAnd x (λ p. p.kind ≡ o.kind)) (sym is) refl
 
-changed_keeps : (h : ℕ) (f : Object → Object) (s : State) → ((o : Object) → (f o).kind ≡ o.kind) → (k : ℕ) → KeepsAt s (changed_at h f s) k
+pub changed_keeps : (h : ℕ) (f : Object → Object) (s : State) → ((o : Object) → (f o).kind ≡ o.kind) → (k : ℕ) → KeepsAt s (changed_at h f s) k
 changed_keeps h f s same k o found = by (cases_eq k h)
   where
     by : (k ≡ h) ⊎ (k ≡ h → ⊥) → IsSomeAnd (object_at (changed_at h f s) k) (λ p. p.kind ≡ o.kind)
@@ -209,7 +209,7 @@ changed_sound h f s same stays all = all_sound (changed_at h f s) each
         by (inr apart) = kept p (sound_at s k p all (sym (others_unchanged h k f s apart) ∙ found))
 
 -- one object more
-new_keeps : (o : Object) (s : State) (k : ℕ) → KeepsAt s (with_object o s) k
+pub new_keeps : (o : Object) (s : State) (k : ℕ) → KeepsAt s (with_object o s) k
 new_keeps o s k p found =
     some_kind s k p (object_at (with_object o s) k) (at_append k s.objects ((s.next, o) ∷ []) ∙ ap (λ x. option_or x (at k ((s.next, o) ∷ []))) found)
 
@@ -255,5 +255,3 @@ ended_sound u phase left s all = all_sound (record (end_flights u phase s) { sto
         (sound_kept s (record (end_flights u phase s) { stopped = left }) (end_flight u phase o) (λ k is. keeps k) (end_sound u phase s o (sound_at s k o all was)))
     each : (k : ℕ) (p : Object) → object_at (record (end_flights u phase s) { stopped = left }) k ≡ Some p → IsSound (record (end_flights u phase s) { stopped = left }) p
     each k p found = from k (object_at s k) p refl (sym (at_map (end_flight u phase) k s.objects) ∙ found)
-pub use_me : ℕ
-use_me = 0

@@ -1,6 +1,7 @@
 pub mod Answers
 pub mod Builds
 pub mod Contents
+pub mod Deaths
 pub mod Ends
 pub mod Examples
 pub mod Extensions

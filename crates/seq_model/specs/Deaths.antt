@@ -1,0 +1,21 @@
+-- Which objects an entry leaves: those to which a chain of names leads from a root.
+use Rattle.std.specs.Prelude.{◌≡◌, ◌⊎◌, ℕ, ◌++◌, ◌∷◌, [], Bool, Some, IsTrue}
+use Rattle.seq_model.specs.Histories.{History, public}
+use Rattle.seq_model.specs.Life.{has, is_root, names_of}
+use Rattle.seq_model.specs.State.{Object, State, object_at}
+use Rattle.seq_model.specs.Steps.{Past, after, change, is_reached, next_place, step}
+use Rattle.seq_model.specs.declared.calls.Entry.{Entry}
+
+-- the state that an entry makes of the one after a history, before what does not live is gone
+abbrev pub changed_by : History → Entry → State
+changed_by history e = change (next_place (after history)) e (after history).state
+
+-- the objects of this state that live by themselves
+abbrev pub lives_itself : History → Entry → ℕ × Object → Bool
+lives_itself history e = is_root (public (history ++ e ∷ [])) (is_reached (after (history ++ e ∷ [])).reached (changed_by history e))
+
+-- each member of a set is an object of this state that lives by itself, or that a member names
+abbrev pub HoldsItself : History → Entry → (ℕ → Type 0) → Type 0
+HoldsItself history e Member =
+    (h : ℕ) → Member h → (o : Object) × (object_at (changed_by history e) h ≡ Some o) ×
+        (IsTrue (lives_itself history e (h, o)) ⊎ ((k : ℕ) × (p : Object) × Member k × (object_at (changed_by history e) k ≡ Some p) × IsTrue (has h (names_of p))))
