@@ -50,10 +50,10 @@ what_is_named_lives history e h k o p legal found names there =
     ∙ closed (lives_itself history e) 1 (changed_by history e).next (changed_by history e).objects (changed_rises history e) (sound_is_ranked (changed_by history e) (changed_sound history e legal))
     h k o p (sym (left_at history e h) ∙ found) names there
 
-pub what_holds_itself_lives : (history : History) (e : Entry) (Member : ℕ → Type 0) → Legal (history ++ e ∷ []) → HoldsItself history e Member →
-    (h : ℕ) → Member h → IsSomeAnd (object_at (changed_by history e) h) (λ o. object_at (after (history ++ e ∷ [])).state h ≡ Some o)
-what_holds_itself_lives history e Member legal holds h member =
+pub what_holds_itself_lives : (history : History) (e : Entry) (members : List ℕ) → Legal (history ++ e ∷ []) → HoldsItself history e members →
+    (h : ℕ) → has h members ≡ true → IsSomeAnd (object_at (changed_by history e) h) (λ o. object_at (after (history ++ e ∷ [])).state h ≡ Some o)
+what_holds_itself_lives history e members legal holds h member =
     let one : (o : Object) × (at h (live (lives_itself history e) (changed_by history e).objects) ≡ Some o) =
-    supported_lives (lives_itself history e) 1 (changed_by history e).next (changed_by history e).objects (changed_rises history e) (sound_is_ranked (changed_by history e) (changed_sound history e legal)) Member holds h member in
+    supported_lives (lives_itself history e) 1 (changed_by history e).next (changed_by history e).objects (changed_rises history e) (sound_is_ranked (changed_by history e) (changed_sound history e legal)) (λ k. has k members ≡ true) holds h member in
     let now : object_at (after (history ++ e ∷ [])).state h ≡ Some one.0 = left_at history e h ∙ one.1 in
     subst (λ x. IsSomeAnd x (λ o. object_at (after (history ++ e ∷ [])).state h ≡ Some o)) (sym (stood history e h one.0 now)) now

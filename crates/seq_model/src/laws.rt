@@ -172,17 +172,15 @@ pub fn legal_states_are_ranked()
 
 /// What a live object names lives, and a set of objects each of which is a root, or is named by one of the set, lives: so an object goes just
 /// where no chain of names leads to it from a root. The states are those in which an entry of a legal history has changed what it changes.
-#[tactic(auto, using(crate::proofs::Deaths::what_is_named_lives, crate::proofs::Deaths::what_holds_itself_lives))]
 pub fn deaths_are_exact()
     ensures closed { (history : History) (e : Entry) (h k : ℕ) (o p : Object) → Legal (history ++ e ∷ []) →
         object_at (after (history ++ e ∷ [])).state h ≡ Some o → IsTrue (has k (names_of o)) → object_at (changed_by history e) k ≡ Some p →
         object_at (after (history ++ e ∷ [])).state k ≡ Some p }
-    ensures held_up { (history : History) (e : Entry) (Member : ℕ → Type 0) → Legal (history ++ e ∷ []) → HoldsItself history e Member →
-        (h : ℕ) → Member h → IsSomeAnd (object_at (changed_by history e) h) (λ o. object_at (after (history ++ e ∷ [])).state h ≡ Some o) }
+    ensures held_up { (history : History) (e : Entry) (members : List ℕ) → Legal (history ++ e ∷ []) → HoldsItself history e members →
+        (h : ℕ) → IsTrue (has h members) → IsSomeAnd (object_at (changed_by history e) h) (λ o. object_at (after (history ++ e ∷ [])).state h ≡ Some o) }
 {}
 
 /// Each ticket stands once among the flights of a history, and is the place of a render before its end.
-#[tactic(auto, using(crate::proofs::Tickets::tickets_stand_once, crate::proofs::Tickets::tickets_are_places))]
 pub fn tickets_stand_once()
     ensures once { (history : History) (t : ℕ) → times t (flights (after history).state) ≤ 1 }
     ensures places { (history : History) (t : ℕ) → IsTrue (has t (flights (after history).state)) → t < next_place (after history) }
