@@ -31,7 +31,7 @@ use Rattle.kind_tables.specs.declared.kinds.Kind.TheVariants.{Array}
 use Rattle.kind_tables.specs.declared.rows.Row.{Row}
 use Rattle.seq_model.proofs.Granted.{AllNone, all_none, does_not_apply, find_passes, first_is_none, out_is_numbered}
 use Rattle.seq_model.proofs.Keys.{RisesWithin}
-use Rattle.seq_model.proofs.Loans.{Each, HasEarlierLoans, parameter_numbers}
+use Rattle.seq_model.proofs.Loans.{HasEarlierLoans, parameter_numbers}
 use Rattle.seq_model.proofs.Creations.{loan_of_parameter}
 use Rattle.seq_model.proofs.Sound.{all_sound, changed_sound, ended_sound, new_sound, sound_at}
 use Rattle.seq_model.proofs.SoundSteps.{all_with_value, all_without, has_that_type, loan_fits, not_wrong, set_fits, zeros_name_nothing}

@@ -29,7 +29,7 @@ use Rattle.seq_model.proofs.Granted.{given}
 use Rattle.seq_model.proofs.Handles.{IsRising, change_rises, changed, rises, rises_as, root_of, step_state, sweep_rises, swept_objects}
 use Rattle.seq_model.proofs.Changes.{entry_changes}
 use Rattle.seq_model.proofs.Keys.{RisesWithin, at, at_append, key_here, nothing_outside}
-use Rattle.seq_model.proofs.Loans.{Each, HasEarlierLoans, loans_are_earlier, parameter_numbers}
+use Rattle.seq_model.proofs.Loans.{Each, Earlier, loans_are_earlier, parameter_numbers}
 use Rattle.seq_model.proofs.Prefixes.{legal_by}
 use Rattle.seq_model.proofs.Ranked.{IsRanked, closed}
 use Rattle.seq_model.proofs.Sound.{KeepsAt, all_sound, changed_keeps, changed_sound, ended_sound, names_are_lower, new_sound, sound_at, sound_kept}
@@ -122,7 +122,7 @@ taken_sound past h name bytes loan o rising all found fits named content =
         (all_with_value (λ (entry : List ℕ × Value). Fits second p.kind entry.0 entry.1) name (value.Object ty.Array1D past.state.next) p.staged sound.staged
         (new_array_fits second p.kind name loan bytes past.state.next named (subst (λ k. LoanFits k loan) kind fits) (new_is_there (taken_array loan bytes) first first_rising))) sound
 
-unmapped_sound : (past : Past) (place h number : ℕ) (name bytes : List ℕ) → IsRising past.state → Each (HasEarlierLoans place) past.state → AllSound past.state →
+unmapped_sound : (past : Past) (place h number : ℕ) (name bytes : List ℕ) → IsRising past.state → Each (Earlier place) past.state → AllSound past.state →
     refusal past (UnmapParameterArray h name number bytes) ≡ None → is_content_sound past (UnmapParameterArray h name number bytes) ≡ true → AllSound (unmap_parameter h name number bytes past.state)
 unfolding unmap_parameter
 unmapped_sound past place h number name bytes rising earlier all none content =
@@ -161,7 +161,7 @@ made_sound past t subtype all none =
     subst (λ x. AllSound (unwrap_or (option_map (λ kind. with_object (fresh kind None) past.state) x) past.state)) (sym kind.1)
     (new_sound (fresh kind.0 None) past.state (new_object_sound past.state t subtype kind.0 kind.1) all)
 
-call_sound : (past : Past) (place earlier_than actor : ℕ) (call : Call) (r : Reply) → IsInPlace past [] (Called actor call r) → IsRising past.state → Each (HasEarlierLoans earlier_than) past.state → AllSound past.state →
+call_sound : (past : Past) (place earlier_than actor : ℕ) (call : Call) (r : Reply) → IsInPlace past [] (Called actor call r) → IsRising past.state → Each (Earlier earlier_than) past.state → AllSound past.state →
     AllSound (effect place call r past.state)
 unfolding effect discard
 call_sound past place n actor (NewObject t subtype) (reply.Made made) placed rising earlier all = made_sound past t subtype all (given past (NewObject t subtype) (reply.Made made) placed.0 (λ refused is. cc)).0
@@ -199,7 +199,7 @@ call_sound past place n actor (UnmapFrame h number) reply.Done placed rising ear
     changed_sound h (unmap_channel number) past.state (λ o. refl) (λ o was sound. same_values past.state o (unmap_channel number o) refl refl refl refl refl sound) all
 call_sound past place n actor _ _ placed rising earlier all = all
 
-entry_sound : (past : Past) (place n : ℕ) (e : Entry) → IsInPlace past [] e → IsRising past.state → Each (HasEarlierLoans n) past.state → AllSound past.state → AllSound (change place e past.state)
+entry_sound : (past : Past) (place n : ℕ) (e : Entry) → IsInPlace past [] e → IsRising past.state → Each (Earlier n) past.state → AllSound past.state → AllSound (change place e past.state)
 unfolding change end_flights
 entry_sound past place n (Called actor call r) placed rising earlier all = call_sound past place n actor call r placed rising earlier all
 entry_sound past place n (Finished u) placed rising earlier all = ended_sound u (Done u) past.state.stopped past.state all

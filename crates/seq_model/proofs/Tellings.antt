@@ -228,7 +228,9 @@ made_weight e s u o h takes quiet rising = by (cases_eq h u.next)
         let now : weight (object_at (with_object o u) h) ≡ cond (is_captured o) 1 0 = ap weight (both ∙ ap (λ x. option_or x (at h ((u.next, o) ∷ []))) none ∙ last) in
         let before : weight (object_at s h) ≡ 0 = sym same_weight ∙ ap weight none in
         let test : (s.next == h) ≡ true = eq-eqb s.next h (sym quiet.next ∙ sym same) in
-        let new : newly s e h ≡ cond (is_captured o) 1 0 = ap (λ t. cond (captures e && t) 1 0) test ∙ ap (λ t. cond (t && true) 1 0) takes ∙ of (is_captured o) in
+        let tested : newly s e h ≡ cond {A = ℕ} (captures e && true) 1 0 = ap (λ t. cond (captures e && t) 1 0) test in
+        let taken : cond {A = ℕ} (captures e && true) 1 0 ≡ cond {A = ℕ} (is_captured o && true) 1 0 = ap (λ t. cond (t && true) 1 0) takes in
+        let new : newly s e h ≡ cond (is_captured o) 1 0 = tested ∙ taken ∙ of (is_captured o) in
         omega (arith, now, before, new)
       where
         of : (t : Bool) → cond {A = ℕ} (t && true) 1 0 ≡ cond {A = ℕ} t 1 0

@@ -7,6 +7,7 @@ pub mod Examples
 pub mod Extensions
 pub mod Histories
 pub mod Legal
+pub mod Lending
 pub mod Life
 pub mod Pictures
 pub mod Refusals

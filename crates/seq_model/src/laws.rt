@@ -1,19 +1,23 @@
 //! What holds of every history: each law is the contract of a function that does nothing.
-ghost use Rattle.std.specs.Prelude.{◌+◌, IsSomeAnd, count_by, List, IsTrue, Bool, ◌≡◌, ℕ, ◌≤◌, ◌<◌, All, length, None, ◌++◌, ◌∷◌, [], Some};
+ghost use Rattle.std.specs.Prelude.{◌+◌, false, IsSomeAnd, count_by, List, IsTrue, Bool, ◌≡◌, ℕ, ◌≤◌, ◌<◌, All, length, None, ◌++◌, ◌∷◌, [], Some};
 ghost use Rattle.std.specs.BTreeMap.{is_at};
 ghost use Rattle.std.specs.List.Sorted.{IsStrictlyIncreasing};
 ghost use Rattle.std.specs.Map.{keys_of, lookup};
 ghost use Rattle.std.specs.Ordering.{nat_cmp};
 ghost use Rattle.dev_types.specs.declared.data_types.DataType.{DataType};
 ghost use Rattle.dev_types.specs.declared.refusals.Refused.{Refused};
+ghost use Rattle.kind_tables.specs.Ranges.{broken_parameter};
 ghost use Rattle.kind_tables.specs.Ranks.{rank_of};
+ghost use Rattle.kind_tables.specs.Scenes.{lights_of, primitives_of};
 ghost use Rattle.kind_tables.specs.WalkRanks.{AreRanked};
+ghost use Rattle.kind_tables.specs.WalkRefusals.{missing_parameter, surface_count};
 ghost use Rattle.kind_tables.specs.Walks.{visited, walk};
 ghost use Rattle.seq_model.specs.Deaths.{HoldsItself, changed_by};
 ghost use Rattle.seq_model.specs.Ends.{is_capturing, is_deleting};
 ghost use Rattle.seq_model.specs.Extensions.{let_follow, readings_of};
 ghost use Rattle.seq_model.specs.Histories.{History, frame_at};
 ghost use Rattle.seq_model.specs.Legal.{IsNext, Legal};
+ghost use Rattle.seq_model.specs.Lending.{WasLent};
 ghost use Rattle.seq_model.specs.Life.{has, names_of, times};
 ghost use Rattle.seq_model.specs.Pictures.{state_before};
 ghost use Rattle.seq_model.specs.Soundness.{AllSound};
@@ -22,7 +26,7 @@ ghost use Rattle.seq_model.specs.Steps.{after, next_place, step, swept};
 ghost use Rattle.seq_model.specs.Tickets.{ticket_of};
 ghost use Rattle.seq_model.specs.Told.{told};
 ghost use Rattle.seq_model.specs.declared.calls.Call.{Call};
-ghost use Rattle.seq_model.specs.declared.calls.Call.TheVariants.{DiscardFrame, FrameReady, GetProperty, ObjectInfo, ParameterInfo, Subtypes};
+ghost use Rattle.seq_model.specs.declared.calls.Call.TheVariants.{DiscardFrame, FrameReady, GetProperty, ObjectInfo, ParameterInfo, RenderFrame, Subtypes};
 ghost use Rattle.seq_model.specs.declared.calls.Entry.{Entry};
 ghost use Rattle.seq_model.specs.declared.calls.Entry.TheVariants.{Called, Closed, Finished};
 ghost use Rattle.seq_model.specs.declared.calls.Reply.{Reply};
@@ -184,4 +188,23 @@ pub fn deaths_are_exact()
 pub fn tickets_stand_once()
     ensures once { (history : History) (t : ℕ) → times t (flights (after history).state) ≤ 1 }
     ensures places { (history : History) (t : ℕ) → IsTrue (has t (flights (after history).state)) → t < next_place (after history) }
+{}
+
+/// All that the walk of a granted render visits is not mapped, has what a picture needs, and is in range, and the walk keeps to the limits.
+pub fn granted_renders_are_sound()
+    ensures unmapped { (history : History) (actor h : ℕ) → Legal (history ++ Called actor (RenderFrame h) reply.Done ∷ []) →
+        All (λ v. v.object.mapped ≡ false) (walk (scene_objects (after history).state) h) }
+    ensures complete { (history : History) (actor h : ℕ) → Legal (history ++ Called actor (RenderFrame h) reply.Done ∷ []) →
+        All (λ v. missing_parameter v.object ≡ None) (walk (scene_objects (after history).state) h) }
+    ensures in_range { (history : History) (actor h : ℕ) → Legal (history ++ Called actor (RenderFrame h) reply.Done ∷ []) →
+        All (λ v. broken_parameter (scene_objects (after history).state) v ≡ None) (walk (scene_objects (after history).state) h) }
+    ensures limits { (history : History) (actor h : ℕ) → Legal (history ++ Called actor (RenderFrame h) reply.Done ∷ []) →
+        (surface_count (walk (scene_objects (after history).state) h) ≤ 65536)
+        × (length (lights_of (walk (scene_objects (after history).state) h)) ≤ 256)
+        × (length (primitives_of (scene_objects (after history).state) (walk (scene_objects (after history).state) h)) ≤ 1048576) }
+{}
+
+/// What an application holds of an object was lent to it by the entries at the places of its loans.
+pub fn loans_were_lent()
+    ensures { (history : History) (h : ℕ) (o : Object) → object_at (after history).state h ≡ Some o → WasLent history h o }
 {}
