@@ -134,17 +134,17 @@ all_above low high (x ∷ ks) k less up =
     let lower : nat_cmp k x ≡ Less = grind (arith, nat_tests) in
     (lower, all_above (x + 1) high ks k (omega arith) up.1)
 
-sorted : (low high : ℕ) (ks : List ℕ) → RisesWithin low high ks → IsStrictlySortedBy nat_cmp ks
+pub sorted : (low high : ℕ) (ks : List ℕ) → RisesWithin low high ks → IsStrictlySortedBy nat_cmp ks
 unfolding IsStrictlySortedBy
 sorted low high [] up = tt
 sorted low high (k ∷ ks) up = (all_above (k + 1) high ks k (omega arith) up.1, sorted (k + 1) high ks up.1)
 
-keys_above : (low high : ℕ) (ks : List ℕ) → RisesWithin low high ks → All (λ k. low ≤ k) ks
+pub keys_above : (low high : ℕ) (ks : List ℕ) → RisesWithin low high ks → All (λ k. low ≤ k) ks
 keys_above low high [] up = All-nil (λ (k : ℕ). low ≤ k)
 keys_above low high (k ∷ ks) up =
     All-cons (λ (x : ℕ). low ≤ x) k ks up.0 (All-weaker (λ (x : ℕ). k + 1 ≤ x) (λ (x : ℕ). low ≤ x) (λ x h. omega (arith, h, up.0)) ks (keys_above (k + 1) high ks up.1))
 
-keys_below : (low high : ℕ) (ks : List ℕ) → RisesWithin low high ks → All (λ k. k < high) ks
+pub keys_below : (low high : ℕ) (ks : List ℕ) → RisesWithin low high ks → All (λ k. k < high) ks
 keys_below low high [] up = All-nil (λ (k : ℕ). k < high)
 keys_below low high (k ∷ ks) up =
     let more : k + 1 ≤ high = rises_up (k + 1) high ks up.1 in

@@ -1,10 +1,11 @@
 //! What holds of every history: each law is the contract of a function that does nothing.
-ghost use Rattle.std.specs.Prelude.{◌+◌, false, IsSomeAnd, count_by, List, IsTrue, Bool, ◌≡◌, ℕ, ◌≤◌, ◌<◌, All, length, None, ◌++◌, ◌∷◌, [], Some};
+ghost use Rattle.std.specs.Prelude.{◌+◌, map, false, IsSomeAnd, count_by, List, IsTrue, Bool, ◌≡◌, ℕ, ◌≤◌, ◌<◌, All, length, None, ◌++◌, ◌∷◌, [], Some};
 ghost use Rattle.std.specs.BTreeMap.{is_at};
 ghost use Rattle.std.specs.List.Sorted.{IsStrictlyIncreasing};
 ghost use Rattle.std.specs.Map.{keys_of, lookup};
 ghost use Rattle.std.specs.Ordering.{nat_cmp};
 ghost use Rattle.dev_types.specs.declared.data_types.DataType.{DataType};
+ghost use Rattle.dev_types.specs.declared.handles.Channel.{Channel};
 ghost use Rattle.dev_types.specs.declared.refusals.Refused.{Refused};
 ghost use Rattle.kind_tables.specs.Ranges.{broken_parameter};
 ghost use Rattle.kind_tables.specs.Ranks.{rank_of};
@@ -20,6 +21,7 @@ ghost use Rattle.seq_model.specs.Legal.{IsNext, Legal};
 ghost use Rattle.seq_model.specs.Lending.{WasLent};
 ghost use Rattle.seq_model.specs.Life.{has, names_of, times};
 ghost use Rattle.seq_model.specs.Pictures.{state_before};
+ghost use Rattle.seq_model.specs.Refusals.{is_same_channel};
 ghost use Rattle.seq_model.specs.Soundness.{AllSound};
 ghost use Rattle.seq_model.specs.State.{Object, flights, object_at, scene_objects};
 ghost use Rattle.seq_model.specs.Steps.{after, next_place, step, swept};
@@ -207,4 +209,14 @@ pub fn granted_renders_are_sound()
 /// What an application holds of an object was lent to it by the entries at the places of its loans.
 pub fn loans_were_lent()
     ensures { (history : History) (h : ℕ) (o : Object) → object_at (after history).state h ≡ Some o → WasLent history h o }
+{}
+
+/// The numbers of an object's loans rise, and are places of the past; and no channel of a frame is mapped twice at a time.
+pub fn loans_stand_once()
+    ensures parameters { (history : History) (h : ℕ) (o : Object) → object_at (after history).state h ≡ Some o →
+        IsStrictlyIncreasing (map (λ loan. loan.number) o.parameter_loans) × All (λ n. n < next_place (after history)) (map (λ loan. loan.number) o.parameter_loans) }
+    ensures channels { (history : History) (h : ℕ) (o : Object) → object_at (after history).state h ≡ Some o →
+        IsStrictlyIncreasing (map (λ m. m.1) o.channels) × All (λ n. n < next_place (after history)) (map (λ m. m.1) o.channels) }
+    ensures one_a_channel { (history : History) (h : ℕ) (o : Object) (c : Channel) → Legal history → object_at (after history).state h ≡ Some o →
+        count_by (λ m. is_same_channel m.0 c) o.channels ≤ 1 }
 {}
