@@ -9,7 +9,7 @@ use Rattle.std.proofs.lemmas.Bool.{cases_eq, eqb-true, or_cases}
 use Rattle.std.proofs.lemmas.Map.Entries.{option_filter}
 use Rattle.seq_model.proofs.Afters.{after_both, keeps_by}
 use Rattle.seq_model.proofs.Changes.{AreLike, Change, Quiet, Making, Rendering, Discarding, Finishing, Leaving, Closing, IsLike, IsQuiet, changed_here, entry_changes, is_captured, others_unchanged}
-use Rattle.seq_model.proofs.Handles.{IsRising, change_rises, changed, lives, rises, root_of, step_rises, step_state, swept_objects}
+use Rattle.seq_model.proofs.Handles.{IsRising, changed_rises, changed, lives, rises, root_of, step_rises, step_state, swept_objects}
 use Rattle.seq_model.proofs.Keys.{at, at_append, at_filter, at_map, key_here, key_is}
 use Rattle.seq_model.specs.Histories.{History, rendered}
 use Rattle.seq_model.specs.Life.{has}
@@ -78,7 +78,7 @@ set_back place e s h k phase o sets found = by (cases_eq k h)
         subst (λ k. ComesFrom place e s k o) (sym same) (here (object_at s h) refl (sym (changed_here h (set_phase phase) s) ∙ subst (λ k. object_at (changed_at h (set_phase phase) s) k ≡ Some o) same found))
     by (inr apart) = Was o (sym (others_unchanged h k (set_phase phase) s apart) ∙ found) refl refl (Kept refl)
 
-stop_objects : (phase : Phase) (s : State) → (stop phase s).objects ≡ s.objects
+pub stop_objects : (phase : Phase) (s : State) → (stop phase s).objects ≡ s.objects
 stop_objects (Flight t) s = refl
 stop_objects Empty s = refl
 stop_objects (Done t) s = refl
@@ -145,7 +145,7 @@ pub step_back : (past : Past) (e : Entry) (k : ℕ) (o : Object) → IsRising pa
 step_back past e k o rising found =
     let changes : Change (next_place past) e past.state (changed past e) = entry_changes (next_place past) e past.state in
     change_back (next_place past) e past.state (changed past e) changes k o
-    (swept_was (step past e) (changed past e) k o (change_rises (next_place past) e past.state (changed past e) changes rising).0 (ap (λ s. object_at s k) (sym (step_state past e)) ∙ found)).0
+    (swept_was (step past e) (changed past e) k o (changed_rises past e rising).0 (ap (λ s. object_at s k) (sym (step_state past e)) ∙ found)).0
 
 -- a handle that was used, with nothing at it, stays so
 pub stays_gone : (past : Past) (e : Entry) (h : ℕ) → IsRising past.state → h < past.state.next → object_at past.state h ≡ None → object_at (step past e).state h ≡ None

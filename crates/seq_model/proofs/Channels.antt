@@ -21,7 +21,7 @@ use Rattle.kind_tables.specs.declared.kinds.Kind.TheVariants.{Array}
 use Rattle.seq_model.proofs.Changes.{entry_changes}
 use Rattle.seq_model.proofs.Came.{swept_was}
 use Rattle.seq_model.proofs.Granted.{AllNone, all_none, does_not_apply, given}
-use Rattle.seq_model.proofs.Handles.{change_rises, changed, keys_above, keys_below, rises, sorted, step_state}
+use Rattle.seq_model.proofs.Handles.{changed_rises, changed, keys_above, keys_below, rises, sorted, step_state}
 use Rattle.seq_model.proofs.Keys.{RisesWithin}
 use Rattle.seq_model.proofs.Loans.{Each, HasEarlierLoans, channel_numbers, each_changed, each_discarded, each_ended, each_new, loans_are_earlier, parameter_numbers}
 use Rattle.seq_model.proofs.Prefixes.{legal_by}
@@ -168,7 +168,7 @@ channels_stand_once history h o c legal found = legal_by (λ past. Each AreOnce 
     more : (history : History) (e : Entry) → Legal (history ++ e ∷ []) → IsInPlace (after history) [] e → Each AreOnce (after history).state → Each AreOnce (step (after history) e).state
     more history e legal placed all k o found =
         entry_once (after history) (next_place (after history)) e placed all k o
-        (swept_was (step (after history) e) (changed (after history) e) k o (change_rises (next_place (after history)) e (after history).state (changed (after history) e) (entry_changes (next_place (after history)) e (after history).state) (rises history)).0
+        (swept_was (step (after history) e) (changed (after history) e) k o (changed_rises (after history) e (rises history)).0
         (ap (λ s. object_at s k) (sym (step_state (after history) e)) ∙ found)).0
 
 -- the numbers of loans in std's words

@@ -4,7 +4,7 @@ use Rattle.std.specs.Option.{IsSomeAnd}
 use Rattle.seq_model.proofs.Afters.{after_more, seen_is_history}
 use Rattle.seq_model.proofs.Came.{swept_was}
 use Rattle.seq_model.proofs.Changes.{entry_changes}
-use Rattle.seq_model.proofs.Handles.{IsRising, change_rises, changed, rises, root_of, step_state, swept_objects, live_keeps}
+use Rattle.seq_model.proofs.Handles.{IsRising, changed_rises, changed, rises, root_of, step_state, swept_objects, live_keeps}
 use Rattle.seq_model.proofs.Keys.{at}
 use Rattle.seq_model.proofs.Prefixes.{in_place, prefix_is_legal}
 use Rattle.seq_model.proofs.Ranked.{closed, supported_lives}
@@ -18,8 +18,8 @@ use Rattle.seq_model.specs.State.{Object, State, object_at}
 use Rattle.seq_model.specs.Steps.{Past, after, change, is_reached, next_place, step, swept}
 use Rattle.seq_model.specs.declared.calls.Entry.{Entry}
 
-changed_rises : (history : History) (e : Entry) → IsRising (changed_by history e)
-changed_rises history e = (change_rises (next_place (after history)) e (after history).state (changed_by history e) (entry_changes (next_place (after history)) e (after history).state) (rises history)).0
+rises_by : (history : History) (e : Entry) → IsRising (changed_by history e)
+rises_by history e = (changed_rises (after history) e (rises history)).0
 
 changed_sound : (history : History) (e : Entry) → Legal (history ++ e ∷ []) → AllSound (changed_by history e)
 changed_sound history e legal = changed_is_sound history e (in_place history e [] legal) (legal_is_sound history (prefix_is_legal history (e ∷ []) legal))
@@ -40,20 +40,20 @@ left_at history e h = ap (at h) (left history e)
 
 stood : (history : History) (e : Entry) (h : ℕ) (o : Object) → object_at (after (history ++ e ∷ [])).state h ≡ Some o → object_at (changed_by history e) h ≡ Some o
 stood history e h o found =
-    (swept_was (step (after history) e) (changed_by history e) h o (changed_rises history e)
+    (swept_was (step (after history) e) (changed_by history e) h o (rises_by history e)
     (ap (λ s. object_at s h) (sym (step_state (after history) e)) ∙ ap (λ (past : Past). object_at past.state h) (sym (after_more history e)) ∙ found)).0
 
 pub what_is_named_lives : (history : History) (e : Entry) (h k : ℕ) (o p : Object) → Legal (history ++ e ∷ []) →
     object_at (after (history ++ e ∷ [])).state h ≡ Some o → has k (names_of o) ≡ true → object_at (changed_by history e) k ≡ Some p → object_at (after (history ++ e ∷ [])).state k ≡ Some p
 what_is_named_lives history e h k o p legal found names there =
     left_at history e k
-    ∙ closed (lives_itself history e) 1 (changed_by history e).next (changed_by history e).objects (changed_rises history e) (sound_is_ranked (changed_by history e) (changed_sound history e legal))
+    ∙ closed (lives_itself history e) 1 (changed_by history e).next (changed_by history e).objects (rises_by history e) (sound_is_ranked (changed_by history e) (changed_sound history e legal))
     h k o p (sym (left_at history e h) ∙ found) names there
 
 pub what_holds_itself_lives : (history : History) (e : Entry) (members : List ℕ) → Legal (history ++ e ∷ []) → HoldsItself history e members →
     (h : ℕ) → has h members ≡ true → IsSomeAnd (object_at (changed_by history e) h) (λ o. object_at (after (history ++ e ∷ [])).state h ≡ Some o)
 what_holds_itself_lives history e members legal holds h member =
     let one : (o : Object) × (at h (live (lives_itself history e) (changed_by history e).objects) ≡ Some o) =
-    supported_lives (lives_itself history e) 1 (changed_by history e).next (changed_by history e).objects (changed_rises history e) (sound_is_ranked (changed_by history e) (changed_sound history e legal)) (λ k. has k members ≡ true) holds h member in
+    supported_lives (lives_itself history e) 1 (changed_by history e).next (changed_by history e).objects (rises_by history e) (sound_is_ranked (changed_by history e) (changed_sound history e legal)) (λ k. has k members ≡ true) holds h member in
     let now : object_at (after (history ++ e ∷ [])).state h ≡ Some one.0 = left_at history e h ∙ one.1 in
     subst (λ x. IsSomeAnd x (λ o. object_at (after (history ++ e ∷ [])).state h ≡ Some o)) (sym (stood history e h one.0 now)) now

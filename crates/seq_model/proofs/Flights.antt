@@ -9,9 +9,9 @@ use Rattle.std.specs.Ordering.{nat_cmp}
 use Rattle.std.proofs.lemmas.Bool.{eqb-true, or_cases}
 use Rattle.std.proofs.lemmas.List.Folds.{list_any-append}
 use Rattle.seq_model.proofs.Afters.{after_both, after_more, frame_early, frame_last, frame_within, grows_by, keeps_by, seen_from, seen_is_history}
-use Rattle.seq_model.proofs.Came.{swept_was, ComesFrom, IsNew, Was, PhaseStep, Kept, Emptied, Started, Ended, step_back}
+use Rattle.seq_model.proofs.Came.{stop_objects, swept_was, ComesFrom, IsNew, Was, PhaseStep, Kept, Emptied, Started, Ended, step_back}
 use Rattle.seq_model.proofs.Changes.{Change, Quiet, Making, Rendering, Discarding, Finishing, Leaving, Closing, IsQuiet, changed_here, entry_changes}
-use Rattle.seq_model.proofs.Handles.{IsRising, change_rises, changed, rises, step_rises, step_state, swept_next}
+use Rattle.seq_model.proofs.Handles.{IsRising, changed_rises, changed, rises, step_rises, step_state, swept_next}
 use Rattle.seq_model.proofs.Keys.{at, one_that_passes}
 use Rattle.seq_model.proofs.Prefixes.{in_place}
 use Rattle.seq_model.proofs.Sweeps.{place_after}
@@ -125,11 +125,6 @@ stopped_by (Flight t) s u is = by (has_last u t s.stopped is)
 abbrev IsDiscarded : State → State → ℕ → Type 0
 IsDiscarded s t u = (h : ℕ) × (p : Object) × (object_at s h ≡ Some p) × (p.phase ≡ Flight u) × ((o : Object) → object_at t h ≡ Some o → o.phase ≡ Empty)
 
-stop_objects : (phase : Phase) (s : State) → (stop phase s).objects ≡ s.objects
-stop_objects (Flight t) s = refl
-stop_objects Empty s = refl
-stop_objects (Done t) s = refl
-
 discarded_stops : (h u : ℕ) (s : State) → has u (discard h s).stopped ≡ true → (has u s.stopped ≡ true) ⊎ IsDiscarded s (discard h s) u
 unfolding discard
 discarded_stops h u s is = by (object_at s h) refl (stopped_by _ (changed_at h (set_phase Empty) s) u is)
@@ -165,7 +160,7 @@ stops place e s t (Closing entry is) u stopped = inl (ap (λ (t : State). has u 
 -- an object that is left by the sweep stood there after the change
 still_there : (past : Past) (e : Entry) (k : ℕ) (o : Object) → IsRising past.state → object_at (step past e).state k ≡ Some o → object_at (changed past e) k ≡ Some o
 still_there past e k o rising found =
-    (swept_was (step past e) (changed past e) k o (change_rises (next_place past) e past.state (changed past e) (entry_changes (next_place past) e past.state) rising).0
+    (swept_was (step past e) (changed past e) k o (changed_rises past e rising).0
     (ap (λ s. object_at s k) (sym (step_state past e)) ∙ found)).0
 
 discards : (actor h : ℕ) (past : Past) → changed past (Called actor (DiscardFrame h) reply.Done) ≡ discard h past.state

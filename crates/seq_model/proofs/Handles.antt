@@ -58,10 +58,6 @@ ended_rises : (u : ℕ) (phase : Phase) (left : List ℕ) (s : State) → IsRisi
 unfolding end_flights
 ended_rises u phase left s rising = rises_as s (record (end_flights u phase s) { stopped = left }) (keys_of-map_values (end_flight u phase) s.objects) refl rising
 
-same_stopped : (u : ℕ) (phase : Phase) (s : State) → record (end_flights u phase s) { stopped = s.stopped } ≡ end_flights u phase s
-unfolding end_flights
-same_stopped u phase s = refl
-
 pub change_rises : (place : ℕ) (e : Entry) (s t : State) → Change place e s t → IsRising s → IsRising t × (s.next ≤ t.next)
 unfolding end_flights
 change_rises place e s t (Quiet shows takes quiet) rising = rises_as s t quiet.keys quiet.next rising
@@ -108,10 +104,12 @@ sweep_rises past s rising =
     let objects : RisesWithin 1 s.next (keys_of (swept past.seen past.reached s).objects) = subst (λ es. RisesWithin 1 s.next (keys_of es)) (sym (swept_objects past s)) kept in
     subst (λ n. RisesWithin 1 n (keys_of (swept past.seen past.reached s).objects)) (sym (swept_next past s).0) objects
 
+pub changed_rises : (past : Past) (e : Entry) → IsRising past.state → IsRising (changed past e) × (past.state.next ≤ (changed past e).next)
+changed_rises past e rising = change_rises (next_place past) e past.state (changed past e) (entry_changes (next_place past) e past.state) rising
+
 pub step_rises : (past : Past) (e : Entry) → IsRising past.state → IsRising (step past e).state × (past.state.next ≤ (step past e).state.next)
 step_rises past e rising =
-    let changes : IsRising (changed past e) × (past.state.next ≤ (changed past e).next) =
-    change_rises (next_place past) e past.state (changed past e) (entry_changes (next_place past) e past.state) rising in
+    let changes : IsRising (changed past e) × (past.state.next ≤ (changed past e).next) = changed_rises past e rising in
     subst (λ s. IsRising s × (past.state.next ≤ s.next)) (sym (step_state past e))
     (sweep_rises (step past e) (changed past e) changes.0, omega (arith, changes.1, (swept_next (step past e) (changed past e)).0))
 

@@ -20,7 +20,7 @@ use Rattle.kind_tables.specs.declared.kinds.Kind.TheVariants.{Array}
 use Rattle.seq_model.proofs.Afters.{after_more, entry_early, entry_last, entry_late, grows_by}
 use Rattle.seq_model.proofs.Came.{swept_was}
 use Rattle.seq_model.proofs.Changes.{entry_changes}
-use Rattle.seq_model.proofs.Handles.{change_rises, changed, rises, step_state}
+use Rattle.seq_model.proofs.Handles.{changed_rises, changed, rises, step_state}
 use Rattle.seq_model.proofs.Loans.{Each, each_changed, each_discarded, each_ended, each_new, each_stays}
 use Rattle.seq_model.proofs.Sweeps.{place_after}
 use Rattle.seq_model.specs.Histories.{History, entry_at}
@@ -205,5 +205,5 @@ loans_were_lent history = grows_by (λ history. Each (WasLent history) (after hi
         subst (λ (past : Past). Each (WasLent (history ++ e ∷ [])) past.state) (sym (after_more history e))
         (λ k o found. entry_lent history e (after history).state (λ h p there. lent_longer history (e ∷ []) h p (now h p there)) k o
         (subst (λ n. object_at (change n e (after history).state) k ≡ Some o) (place_after history)
-        (swept_was (step (after history) e) (changed (after history) e) k o (change_rises (next_place (after history)) e (after history).state (changed (after history) e) (entry_changes (next_place (after history)) e (after history).state) (rises history)).0
+        (swept_was (step (after history) e) (changed (after history) e) k o (changed_rises (after history) e (rises history)).0
         (ap (λ s. object_at s k) (sym (step_state (after history) e)) ∙ found)).0))

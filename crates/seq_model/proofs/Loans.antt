@@ -15,7 +15,7 @@ use Rattle.kind_tables.specs.declared.kinds.Kind.TheVariants.{Array}
 use Rattle.seq_model.proofs.Afters.{after_more, grows_by, seen_is_history}
 use Rattle.seq_model.proofs.Came.{added, end_is, swept_was}
 use Rattle.seq_model.proofs.Changes.{changed_here, entry_changes, others_unchanged}
-use Rattle.seq_model.proofs.Handles.{change_rises, changed, rises, step_state}
+use Rattle.seq_model.proofs.Handles.{changed_rises, changed, rises, step_state}
 use Rattle.seq_model.proofs.Keys.{RisesWithin, at, at_map, rises_from_lower, rises_to_higher, rises_with_next}
 use Rattle.seq_model.proofs.Sweeps.{place_after}
 use Rattle.seq_model.specs.Histories.{History}
@@ -201,5 +201,5 @@ loans_are_earlier history = grows_by (λ history. Each (Earlier (length history 
         (subst (λ (past : Past). Each (Earlier (length history + 1 + 1)) past.state) (sym (after_more history e))
         (λ k o found. entry_loans (length history + 1) e (after history).state (omega arith) now k o
         (subst (λ n. object_at (change n e (after history).state) k ≡ Some o) (place_after history)
-        (swept_was (step (after history) e) (changed (after history) e) k o (change_rises (next_place (after history)) e (after history).state (changed (after history) e) (entry_changes (next_place (after history)) e (after history).state) (rises history)).0
+        (swept_was (step (after history) e) (changed (after history) e) k o (changed_rises (after history) e (rises history)).0
         (ap (λ s. object_at s k) (sym (step_state (after history) e)) ∙ found)).0)))

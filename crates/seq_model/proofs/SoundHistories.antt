@@ -26,7 +26,7 @@ use Rattle.seq_model.proofs.Afters.{after_more}
 use Rattle.seq_model.proofs.Changes.{changed_here, keys_of_changed}
 use Rattle.seq_model.proofs.Creations.{kind_is_there, loan_of_parameter}
 use Rattle.seq_model.proofs.Granted.{given}
-use Rattle.seq_model.proofs.Handles.{IsRising, change_rises, changed, rises, rises_as, root_of, step_state, sweep_rises, swept_objects}
+use Rattle.seq_model.proofs.Handles.{IsRising, changed_rises, changed, rises, rises_as, root_of, step_state, sweep_rises, swept_objects}
 use Rattle.seq_model.proofs.Changes.{entry_changes}
 use Rattle.seq_model.proofs.Keys.{RisesWithin, at, at_append, key_here, nothing_outside}
 use Rattle.seq_model.proofs.Loans.{Each, Earlier, loans_are_earlier, parameter_numbers}
@@ -238,5 +238,5 @@ legal_is_sound history legal = legal_by (λ past. AllSound past.state) sound_fir
     more history e legal placed all =
         subst AllSound (sym (step_state (after history) e))
         (sweep_sound (step (after history) e) (changed (after history) e)
-        (change_rises (next_place (after history)) e (after history).state (changed (after history) e) (entry_changes (next_place (after history)) e (after history).state) (rises history)).0
+        (changed_rises (after history) e (rises history)).0
         (changed_is_sound history e placed all))

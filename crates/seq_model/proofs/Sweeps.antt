@@ -15,7 +15,7 @@ use Rattle.seq_model.proofs.Afters.{after_more, grows_by, seen_is_history}
 use Rattle.seq_model.proofs.Came.{ComesFrom, IsNew, Was, PhaseStep, Kept, Emptied, Started, Ended, change_back, swept_was}
 use Rattle.seq_model.proofs.Changes.{entry_changes}
 use Rattle.seq_model.proofs.Growths.{live_twice, root_is_in, lives_from}
-use Rattle.seq_model.proofs.Handles.{IsRising, change_rises, changed, lives, rises, root_of, step_state, swept_objects, swept_next}
+use Rattle.seq_model.proofs.Handles.{IsRising, change_rises, changed_rises, changed, lives, rises, root_of, step_state, swept_objects, swept_next}
 use Rattle.seq_model.proofs.Keys.{all_from_at, at, at_map, at_within, key_is}
 use Rattle.seq_model.proofs.Reached.{carries, reach_early, reach_here, reach_of, step_reached}
 use Rattle.seq_model.specs.Histories.{History, public, rendered}
@@ -91,9 +91,6 @@ flown_changed history e flown k o u found flies =
         by None there = refl
         by (Some hs) there = let less : n < length history + 1 = early n hs there in absurd (omega (arith, less, is))
 
-changed_rises : (past : Past) (e : Entry) → IsRising past.state → IsRising (changed past e)
-changed_rises past e rising = (change_rises (next_place past) e past.state (changed past e) (entry_changes (next_place past) e past.state) rising).0
-
 flown_first : IsFlown (after []).reached (after []).state
 unfolding after
 flown_first k o u found flies = absurd cc
@@ -105,7 +102,7 @@ flown history = grows_by (λ history. IsFlown (after history).reached (after his
     more history e now =
         subst (λ (past : Past). IsFlown past.reached past.state) (sym (after_more history e))
         (λ k o u found flies. flown_changed history e now k o u
-        (swept_was (step (after history) e) (changed (after history) e) k o (changed_rises (after history) e (rises history)) (ap (λ s. object_at s k) (sym (step_state (after history) e)) ∙ found)).0 flies)
+        (swept_was (step (after history) e) (changed (after history) e) k o (changed_rises (after history) e (rises history)).0 (ap (λ s. object_at s k) (sym (step_state (after history) e)) ∙ found)).0 flies)
 
 -- what is gone is in no flight
 any_of_tickets : (q : ℕ → Bool) (k u : ℕ) (o : Object) (es : List (ℕ × Object)) → at k es ≡ Some o → ticket_in o.phase ≡ Some u → q u ≡ true →
@@ -191,7 +188,7 @@ is_swept history = grows_by (λ history. IsSwept (after history)) swept_first mo
     more history e now =
         subst IsSwept (sym (after_more history e))
         (subst (λ s. swept (step (after history) e).seen (step (after history) e).reached s ≡ s) (sym (step_state (after history) e))
-        (swept_twice (step (after history) e) (changed (after history) e) (changed_rises (after history) e (rises history)) (flown_changed history e (flown history))))
+        (swept_twice (step (after history) e) (changed (after history) e) (changed_rises (after history) e (rises history)).0 (flown_changed history e (flown history))))
 
 pub sweeps_once : (history : History) → swept history (after history).reached (after history).state ≡ (after history).state
 sweeps_once history = subst (λ seen. swept seen (after history).reached (after history).state ≡ (after history).state) (seen_is_history history) (is_swept history)

@@ -20,10 +20,10 @@ use Rattle.dev_types.specs.declared.notices.Notice.{Notice}
 use Rattle.dev_types.specs.declared.notices.Notice.TheVariants.{Deleted, LetGo, Told}
 use Rattle.dev_types.specs.declared.refusals.Refused.{Refused}
 use Rattle.seq_model.proofs.Afters.{after_more, grows_by}
-use Rattle.seq_model.proofs.Came.{end_is, stays_gone}
+use Rattle.seq_model.proofs.Came.{stop_objects, end_is, stays_gone}
 use Rattle.seq_model.proofs.Changes.{AreLike, Change, Quiet, Making, Rendering, Discarding, Finishing, Leaving, Closing, IsQuiet, captures, changed_here, entry_changes, is_captured, is_captured_array, others_unchanged}
 use Rattle.seq_model.proofs.Creations.{made_handle}
-use Rattle.seq_model.proofs.Handles.{IsRising, change_rises, changed, lives, rises, root_of, step_rises, step_state, sweep_rises, swept_next, swept_objects}
+use Rattle.seq_model.proofs.Handles.{IsRising, change_rises, changed_rises, changed, lives, rises, root_of, step_rises, step_state, sweep_rises, swept_next, swept_objects}
 use Rattle.seq_model.proofs.Keys.{RisesWithin, at, at_append, at_filter, at_map, at_within, key_here, key_is, key_is_other, nothing_outside, rises_filtered}
 use Rattle.seq_model.proofs.Prefixes.{in_place, prefix_is_legal}
 use Rattle.seq_model.specs.Ends.{is_capturing, is_deleting}
@@ -146,22 +146,19 @@ parts p (Some o) y is = by (p o) refl
         let none : y ≡ None = is ∙ ap (λ t. cond t (Some o) None) test in
         subst (λ y. weight (option_filter (λ o. not (is_some y)) (Some o)) + weight y ≡ weight (Some o)) (sym none) (let none : weight (Some o) + 0 ≡ weight (Some o) = omega arith in none)
 
-changed_rises : (past : Past) (e : Entry) → IsRising past.state → IsRising (changed past e)
-changed_rises past e rising = (change_rises (next_place past) e past.state (changed past e) (entry_changes (next_place past) e past.state) rising).0
-
 at_step : (past : Past) (e : Entry) (h : ℕ) → IsRising past.state →
     object_at (step past e).state h ≡ option_filter (λ o. lives (root_of (step past e) (changed past e)) (changed past e).objects (h, o)) (object_at (changed past e) h)
 at_step past e h rising =
     ap (λ s. object_at s h) (step_state past e) ∙ ap (at h) (swept_objects (step past e) (changed past e))
-    ∙ at_filter (lives (root_of (step past e) (changed past e)) (changed past e).objects) h 1 (changed past e).next (changed past e).objects (changed_rises past e rising)
+    ∙ at_filter (lives (root_of (step past e) (changed past e)) (changed past e).objects) h 1 (changed past e).next (changed past e).objects (changed_rises past e rising).0
 
 -- what a step tells and what it leaves
 told_and_left : (past : Past) (e : Entry) (h : ℕ) → IsRising past.state →
     deleted h (filter_map end_of_object (gone (changed past e) (step past e).state)) + weight (object_at (step past e).state h) ≡ weight (object_at (changed past e) h)
 told_and_left past e h rising =
     ap (λ n. n + weight (object_at (step past e).state h))
-    (deleted_of_ends h 1 (changed past e).next (gone (changed past e) (step past e).state) (rises_filtered (λ entry. not (has entry.0 (keys_of (step past e).state.objects))) 1 (changed past e).next (changed past e).objects (changed_rises past e rising))
-    ∙ ap weight (at_gone h (changed past e) (step past e).state (changed_rises past e rising)))
+    (deleted_of_ends h 1 (changed past e).next (gone (changed past e) (step past e).state) (rises_filtered (λ entry. not (has entry.0 (keys_of (step past e).state.objects))) 1 (changed past e).next (changed past e).objects (changed_rises past e rising).0)
+    ∙ ap weight (at_gone h (changed past e) (step past e).state (changed_rises past e rising).0))
     ∙ parts (λ o. lives (root_of (step past e) (changed past e)) (changed past e).objects (h, o)) (object_at (changed past e) h) (object_at (step past e).state h) (at_step past e h rising)
 
 -- what a change makes of the weight at a handle
@@ -183,11 +180,6 @@ set_weight k h phase s = by (cases_eq h k)
         subst (λ h. weight (object_at (changed_at k (set_phase phase) s) h) ≡ weight (object_at s h)) (sym same)
         (ap weight (changed_here k (set_phase phase) s) ∙ mapped_weight (set_phase phase) (λ o. refl) (object_at s k))
     by (inr apart) = ap weight (others_unchanged k h (set_phase phase) s apart)
-
-stop_objects : (phase : Phase) (s : State) → (stop phase s).objects ≡ s.objects
-stop_objects (Flight t) s = refl
-stop_objects Empty s = refl
-stop_objects (Done t) s = refl
 
 discard_weight : (k h : ℕ) (s : State) → weight (object_at (discard k s) h) ≡ weight (object_at s h)
 unfolding discard
@@ -404,11 +396,11 @@ told_now_is_gone : (past : Past) (e : Entry) (h : ℕ) → IsRising past.state �
 told_now_is_gone past e h rising open_ more =
     let is : deleted h (told_by past e) ≡ weight (option_filter (λ o. not (is_some (object_at (step past e).state h))) (object_at (changed past e) h)) =
     deleted_by past e h ∙ ap (λ es. deleted h (filter_map end_of_object es)) (removed_is past e open_)
-    ∙ deleted_of_ends h 1 (changed past e).next (gone (changed past e) (step past e).state) (rises_filtered (λ entry. not (has entry.0 (keys_of (step past e).state.objects))) 1 (changed past e).next (changed past e).objects (changed_rises past e rising))
-    ∙ ap weight (at_gone h (changed past e) (step past e).state (changed_rises past e rising)) in
+    ∙ deleted_of_ends h 1 (changed past e).next (gone (changed past e) (step past e).state) (rises_filtered (λ entry. not (has entry.0 (keys_of (step past e).state.objects))) 1 (changed past e).next (changed past e).objects (changed_rises past e rising).0)
+    ∙ ap weight (at_gone h (changed past e) (step past e).state (changed_rises past e rising).0) in
     let both : ((o : Object) × (object_at (changed past e) h ≡ Some o)) × (object_at (step past e).state h ≡ None) =
     gone_now (object_at (changed past e) h) (object_at (step past e).state h) (omega (arith, more, is)) in
-    let within : (1 ≤ h) × (h < (changed past e).next) = at_within h 1 (changed past e).next (changed past e).objects both.0.0 (changed_rises past e rising) both.0.1 in
+    let within : (1 ≤ h) × (h < (changed past e).next) = at_within h 1 (changed past e).next (changed past e).objects both.0.0 (changed_rises past e rising).0 both.0.1 in
     let same : (step past e).state.next ≡ (changed past e).next = ap (λ (s : State). s.next) (step_state past e) ∙ (swept_next (step past e) (changed past e)).0 in
     (omega (arith, within.1, same), both.1)
 

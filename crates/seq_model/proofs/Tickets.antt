@@ -3,7 +3,7 @@ use Rattle.std.proofs.Common.{ℕ, ◌+◌, ◌==◌, ◌≡◌, ◌<◌, ◌≤
 use Rattle.std.specs.Prelude.{cond, count_by}
 use Rattle.std.specs.List.{filter, filter_map, list_any}
 use Rattle.std.specs.Map.{keys_of}
-use Rattle.std.specs.Option.{option_map_or}
+use Rattle.std.specs.Option.{option_map_or, unwrap_or}
 use Rattle.std.proofs.lemmas.Bool.{cases_Bool, cond-false, cond-true, eq-eqb, eqb-true, ne_eqb, or_cases, or_parts}
 use Rattle.std.proofs.lemmas.List.Folds.{list_any-append}
 use Rattle.std.proofs.lemmas.List.Sums.{sum_by-append, sum_by-cons}
@@ -159,23 +159,18 @@ stopped_once u history = grows_by (λ history. times u (after history).state.sto
         (subst (λ us. times u us ≤ 1) (sym (swept_next (step (after history) e) (changed (after history) e)).1)
         (change_once (next_place (after history)) history e (changed (after history) e) u (entry_changes (next_place (after history)) e (after history).state) once)))
 
--- the frame that a place rendered
-frame_of_place : Option ℕ → ℕ
-frame_of_place None = 0
-frame_of_place (Some f) = f
-
 pub tickets_stand_once : (history : History) (t : ℕ) → times t (flights (after history).state) ≤ 1
-unfolding tickets_of frame_of_place
+unfolding tickets_of
 tickets_stand_once history t = by (has t (after history).state.stopped) refl
   where
     frames : List ℕ
     frames = filter_map (λ entry. ticket_in entry.1.phase) (after history).state.objects
     all : times t (flights (after history).state) ≡ times t frames + times t (after history).state.stopped
     all = sum_by-append (λ k. cond (k == t) 1 0) frames (after history).state.stopped
-    own : (k : ℕ) (o : Object) → at k (after history).state.objects ≡ Some o → ticket_in o.phase ≡ Some t → k ≡ frame_of_place (frame_at history t)
-    own k o found flies = ap frame_of_place (sym (own_tickets history k t o found (ticket_in_flight o.phase t flies)))
+    own : (k : ℕ) (o : Object) → at k (after history).state.objects ≡ Some o → ticket_in o.phase ≡ Some t → k ≡ unwrap_or (frame_at history t) 0
+    own k o found flies = ap (λ x. unwrap_or x 0) (sym (own_tickets history k t o found (ticket_in_flight o.phase t flies)))
     once : times t frames ≤ 1
-    once = frames_once t (frame_of_place (frame_at history t)) 1 (after history).state.next (after history).state.objects (rises history) own
+    once = frames_once t (unwrap_or (frame_at history t) 0) 1 (after history).state.next (after history).state.objects (rises history) own
     none_flies : IsUnseen t (after history) → (b : Bool) → has t frames ≡ b → b ≡ false
     none_flies unseen false is = refl
     none_flies unseen true is =
