@@ -1,6 +1,6 @@
 -- A mapped channel of a frame stands once, and the numbers of loans rise.
-use Rattle.std.proofs.Common.{ℕ, ◌+◌, ◌==◌, ◌≡◌, ◌<◌, ◌≤◌, ◌∙◌, ◌⊎◌, inl, inr, Bool, true, false, not, List, [], ◌∷◌, ◌++◌, All, Option, Some, None, map, refl, sym, ap, subst, length, arith}
-use Rattle.std.specs.Prelude.{cond, count_by, ◌||◌}
+use Rattle.std.proofs.Common.{ℕ, ◌+◌, ◌==◌, ◌≡◌, ◌<◌, ◌≤◌, ◌∙◌, Bool, true, false, not, List, [], ◌∷◌, ◌++◌, All, Option, Some, None, map, refl, sym, ap, subst, length, arith}
+use Rattle.std.specs.Prelude.{cond, count_by}
 use Rattle.std.specs.List.{filter, list_any}
 use Rattle.std.specs.List.Sorted.{IsStrictlyIncreasing}
 use Rattle.std.specs.Option.{option_and_then, option_map, option_map_or, unwrap_or}
@@ -18,21 +18,20 @@ use Rattle.dev_types.specs.declared.values.Value.TheVariants as value
 use Rattle.kind_tables.specs.Kinds.{kind_of}
 use Rattle.kind_tables.specs.declared.kinds.Kind.{Kind}
 use Rattle.kind_tables.specs.declared.kinds.Kind.TheVariants.{Array}
-use Rattle.seq_model.proofs.Changes.{entry_changes}
 use Rattle.seq_model.proofs.Came.{swept_was}
 use Rattle.seq_model.proofs.Granted.{AllNone, all_none, does_not_apply, given}
-use Rattle.seq_model.proofs.Handles.{changed_rises, changed, keys_above, keys_below, rises, sorted, step_state}
+use Rattle.seq_model.proofs.Handles.{changed_rises, changed, keys_below, rises, sorted, step_state}
 use Rattle.seq_model.proofs.Keys.{RisesWithin}
-use Rattle.seq_model.proofs.Loans.{Each, HasEarlierLoans, channel_numbers, each_changed, each_discarded, each_ended, each_new, loans_are_earlier, parameter_numbers}
+use Rattle.seq_model.proofs.Loans.{Each, channel_numbers, each_changed, each_discarded, each_ended, each_new, loans_are_earlier, parameter_numbers}
 use Rattle.seq_model.proofs.Prefixes.{legal_by}
 use Rattle.seq_model.proofs.Sweeps.{place_after}
 use Rattle.seq_model.specs.Histories.{History}
 use Rattle.seq_model.specs.Legal.{IsInPlace, Legal}
 use Rattle.seq_model.specs.Refusals.{is_same_channel, mapped_at, refusal, refusals_of, refusals_of_map_frame}
-use Rattle.seq_model.specs.State.{ArrayState, Object, ParameterLoan, Phase, Empty, Flight, Done, State, changed_at, content_of_loan, object_at, parameter_loan, with_object}
-use Rattle.seq_model.specs.Steps.{Past, after, change, change_array, commit, discard, effect, end_flights, end_parameter_loan, fresh, fresh_array, holding, lend_parameter, lent, map_channel, next_place, set_phase, set_staged, step, take_in, unmap_channel, unmap_parameter, with_value, without_value}
+use Rattle.seq_model.specs.State.{Object, ParameterLoan, Empty, Flight, Done, State, changed_at, content_of_loan, object_at, parameter_loan, with_object}
+use Rattle.seq_model.specs.Steps.{Past, after, change, change_array, commit, effect, end_flights, end_parameter_loan, fresh, fresh_array, holding, lend_parameter, lent, map_channel, next_place, set_phase, set_staged, step, take_in, unmap_channel, unmap_parameter, with_value, without_value}
 use Rattle.seq_model.specs.declared.calls.Call.{Call}
-use Rattle.seq_model.specs.declared.calls.Call.TheVariants.{NewObject, NewArray, Retain, Release, SetParameter, UnsetParameter, UnsetAll, Commit, MapArray, UnmapArray, MapParameterArray, UnmapParameterArray, RenderFrame, FrameReady, DiscardFrame, MapFrame, UnmapFrame, GetProperty, Subtypes, ObjectInfo, ParameterInfo}
+use Rattle.seq_model.specs.declared.calls.Call.TheVariants.{NewObject, NewArray, SetParameter, UnsetParameter, UnsetAll, Commit, MapArray, UnmapArray, MapParameterArray, UnmapParameterArray, RenderFrame, DiscardFrame, MapFrame, UnmapFrame}
 use Rattle.seq_model.specs.declared.calls.Entry.{Entry}
 use Rattle.seq_model.specs.declared.calls.Entry.TheVariants.{Called, Finished, Left, Closed}
 use Rattle.seq_model.specs.declared.calls.Reply.{Reply}
@@ -59,6 +58,7 @@ fewer_mapped c p (m ∷ ms) = by (p m) (fewer_mapped c p ms)
   where
     all : times_mapped c (m ∷ ms) ≡ cond {A = ℕ} (is_same_channel m.0 c) 1 0 + times_mapped c ms
     all = sum_by-cons (λ (m : Channel × ℕ). cond (is_same_channel m.0 c) 1 0) m ms
+
     by : (t : Bool) → times_mapped c (filter p ms) ≤ times_mapped c ms → times_mapped c (cond t (m ∷ filter p ms) (filter p ms)) ≤ times_mapped c (m ∷ ms)
     by true rest = omega (arith, all, rest, sum_by-cons (λ (m : Channel × ℕ). cond (is_same_channel m.0 c) 1 0) m (filter p ms))
     by false rest = omega (arith, all, rest)
@@ -76,8 +76,10 @@ one_more c place ms once free d = by (is_same_channel c d) refl
   where
     all : times_mapped d (ms ++ (c, place) ∷ []) ≡ times_mapped d ms + times_mapped d ((c, place) ∷ [])
     all = sum_by-append (λ (m : Channel × ℕ). cond (is_same_channel m.0 d) 1 0) ms ((c, place) ∷ [])
+
     last : times_mapped d ((c, place) ∷ []) ≡ cond {A = ℕ} (is_same_channel c d) 1 0 + 0
     last = sum_by-cons (λ (m : Channel × ℕ). cond (is_same_channel m.0 d) 1 0) (c, place) []
+
     by : (t : Bool) → is_same_channel c d ≡ t → times_mapped d (ms ++ (c, place) ∷ []) ≤ 1
     by true is =
         let none : times_mapped d ms ≡ 0 = never_mapped d ms (ap (λ (test : Channel × ℕ → Bool). list_any test ms) (sym (same_channels c d is)) ∙ free) in
@@ -125,6 +127,7 @@ mapped_once past place h c none all =
     -- an object other than the frame need not be free
     Free : ℕ → Object → Type 0
     Free k o = (k ≡ h → list_any (λ m. is_same_channel m.0 c) o.channels ≡ false) × AreOnce k o
+
     free : Each Free past.state
     free k o found = (λ same. was_free past h c o none (subst (λ k. object_at past.state k ≡ Some o) same found), all k o found)
 

@@ -1,10 +1,9 @@
 -- What an entry of a legal history leaves is closed under naming, and is all that holds itself up from the roots.
-use Rattle.std.proofs.Common.{ℕ, ◌≡◌, ◌∙◌, ◌⊎◌, inl, inr, Bool, true, List, [], ◌∷◌, ◌++◌, IsTrue, Option, Some, refl, sym, ap, subst}
+use Rattle.std.proofs.Common.{ℕ, ◌≡◌, ◌∙◌, true, List, [], ◌∷◌, ◌++◌, Some, sym, ap, subst}
 use Rattle.std.specs.Option.{IsSomeAnd}
 use Rattle.seq_model.proofs.Afters.{after_more, seen_is_history}
 use Rattle.seq_model.proofs.Came.{swept_was}
-use Rattle.seq_model.proofs.Changes.{entry_changes}
-use Rattle.seq_model.proofs.Handles.{IsRising, changed_rises, changed, rises, root_of, step_state, swept_objects, live_keeps}
+use Rattle.seq_model.proofs.Handles.{IsRising, changed_rises, rises, root_of, step_state, swept_objects, live_keeps}
 use Rattle.seq_model.proofs.Keys.{at}
 use Rattle.seq_model.proofs.Prefixes.{in_place, prefix_is_legal}
 use Rattle.seq_model.proofs.Ranked.{closed, supported_lives}
@@ -15,7 +14,7 @@ use Rattle.seq_model.specs.Legal.{Legal}
 use Rattle.seq_model.specs.Life.{has, is_root, live, names_of}
 use Rattle.seq_model.specs.Soundness.{AllSound}
 use Rattle.seq_model.specs.State.{Object, State, object_at}
-use Rattle.seq_model.specs.Steps.{Past, after, change, is_reached, next_place, step, swept}
+use Rattle.seq_model.specs.Steps.{Past, after, is_reached, step, swept}
 use Rattle.seq_model.specs.declared.calls.Entry.{Entry}
 
 rises_by : (history : History) (e : Entry) → IsRising (changed_by history e)

@@ -1,20 +1,20 @@
 -- What a reply tells of its call.
-use Rattle.std.proofs.Common.{ℕ, ◌+◌, ◌≡◌, ◌<◌, ◌≤◌, ◌∙◌, ◌⊎◌, inl, inr, ◌==◌, Bool, true, false, List, [], ◌∷◌, ◌++◌, Option, Some, None, refl, sym, ap, subst, arith}
+use Rattle.std.proofs.Common.{ℕ, ◌≡◌, ◌∙◌, ◌⊎◌, inl, inr, ◌==◌, Bool, true, false, List, [], ◌∷◌, Option, Some, None, refl, sym, ap}
 use Rattle.dev_types.specs.DataTypes.{byte_size}
 use Rattle.std.specs.Str.{bytes_eq}
-use Rattle.std.specs.Prelude.{◌&&◌, ◌*◌, cond, ◌||◌}
+use Rattle.std.specs.Prelude.{◌&&◌, ◌*◌, cond}
 use Rattle.std.specs.Bool.{then_some}
 use Rattle.std.specs.List.{find, list_any}
-use Rattle.std.specs.Option.{MatchOption, is_none, option_and_then, option_map, option_or}
-use Rattle.std.proofs.lemmas.Bool.{and_parts, cases_Bool, not_from_true, not-false, or_cases}
+use Rattle.std.specs.Option.{MatchOption, option_and_then, option_map, option_or}
+use Rattle.std.proofs.lemmas.Bool.{and_parts, or_cases}
 use Rattle.dev_types.specs.declared.refusals.Refused.{Refused}
 use Rattle.dev_types.specs.declared.refusals.Refused.TheVariants.{InFlight}
 use Rattle.seq_model.specs.Answers.{IsAnswer, IsLike, answer, granted, info_of, mapped_picture, property_of, readiness}
 use Rattle.seq_model.specs.Refusals.{first_of, is_parameter_out, phase_at, refusal}
-use Rattle.seq_model.specs.State.{Object, ParameterLoan, Phase, Empty, Flight, Done, State, object_at, parameter_loan}
-use Rattle.seq_model.specs.Steps.{Past, next_place}
+use Rattle.seq_model.specs.State.{ParameterLoan, Phase, Empty, Flight, Done, parameter_loan}
+use Rattle.seq_model.specs.Steps.{Past}
 use Rattle.seq_model.specs.declared.calls.Call.{Call}
-use Rattle.seq_model.specs.declared.calls.Call.TheVariants.{NewObject, NewArray, Retain, Release, SetParameter, UnsetParameter, UnsetAll, Commit, MapArray, UnmapArray, MapParameterArray, UnmapParameterArray, RenderFrame, FrameReady, DiscardFrame, MapFrame, UnmapFrame, GetProperty, Subtypes, ObjectInfo, ParameterInfo}
+use Rattle.seq_model.specs.declared.calls.Call.TheVariants.{NewObject, NewArray, Retain, UnmapParameterArray, FrameReady, MapFrame, GetProperty, ObjectInfo, ParameterInfo}
 use Rattle.seq_model.specs.declared.calls.Reply.{Reply}
 use Rattle.seq_model.specs.declared.calls.Reply.TheVariants as reply
 use Rattle.kind_tables.specs.Kinds.{kind_of}

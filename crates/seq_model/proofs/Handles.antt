@@ -1,6 +1,6 @@
 -- Handles rise, and none is used again.
-use Rattle.std.proofs.Common.{ℕ, ◌+◌, ◌==◌, not, Less, ◌≡◌, ◌<◌, ◌≤◌, ◌∙◌, Bool, List, [], ◌∷◌, ◌++◌, All, Option, Some, None, map, refl, sym, ap, subst, arith}
-use Rattle.std.specs.Prelude.{◌||◌, fold}
+use Rattle.std.proofs.Common.{ℕ, ◌+◌, ◌==◌, not, Less, ◌≡◌, ◌<◌, ◌≤◌, ◌∙◌, Bool, List, [], ◌∷◌, ◌++◌, All, refl, sym, ap, subst, arith}
+use Rattle.std.specs.Prelude.{◌||◌}
 use Rattle.std.specs.List.{filter}
 use Rattle.std.specs.List.{AllByRecursion}
 use Rattle.std.specs.List.Sorted.{IsStrictlyIncreasing, IsStrictlySortedBy}
@@ -12,11 +12,11 @@ use Rattle.std.proofs.lemmas.Map.Keys.{IsStrictlyIncreasing-from_sorted}
 use Rattle.std.proofs.lemmas.Map.Made.{keys_of-map_values}
 use Rattle.seq_model.proofs.Afters.{after_both, after_by, keeps_by}
 use Rattle.seq_model.proofs.Changes.{Change, Quiet, Making, Rendering, Discarding, Finishing, Leaving, Closing, IsQuiet, entry_changes, keys_of_changed}
-use Rattle.seq_model.proofs.Keys.{RisesWithin, rises_filtered, rises_up, rises_with_next, rises_from_lower}
-use Rattle.seq_model.specs.Histories.{History, public, rendered}
+use Rattle.seq_model.proofs.Keys.{RisesWithin, rises_filtered, rises_up, rises_with_next}
+use Rattle.seq_model.specs.Histories.{History, public}
 use Rattle.seq_model.specs.Life.{grown, is_named_by, is_root, live}
-use Rattle.seq_model.specs.State.{Object, Phase, Empty, Flight, Done, State, changed_at, object_at, with_object}
-use Rattle.seq_model.specs.Steps.{Past, after, change, discard, end_flight, end_flights, is_reached, next_place, set_phase, start, step, stop, swept, with_reach}
+use Rattle.seq_model.specs.State.{Object, Phase, Empty, Flight, Done, State, changed_at, with_object}
+use Rattle.seq_model.specs.Steps.{Past, after, change, discard, end_flight, end_flights, is_reached, next_place, set_phase, step, stop, swept}
 use Rattle.seq_model.specs.declared.calls.Entry.{Entry}
 
 -- the keys of a state rise, and stay below the next handle

@@ -1,13 +1,13 @@
 -- What is lent of an object was lent by the entries at the places of its loans.
-use Rattle.std.proofs.Common.{ℕ, ◌+◌, ◌*◌, ◌==◌, ◌≡◌, ◌<◌, ◌≤◌, ◌∙◌, ◌⊎◌, inl, inr, Bool, true, false, not, List, [], ◌∷◌, ◌++◌, All, IsTrue, Option, Some, None, refl, sym, ap, subst, length, arith}
-use Rattle.std.specs.Prelude.{cond, ◌&&◌}
+use Rattle.std.proofs.Common.{ℕ, ◌+◌, ◌==◌, ◌≡◌, ◌<◌, ◌≤◌, ◌∙◌, ◌⊎◌, inl, inr, Bool, true, not, List, [], ◌∷◌, ◌++◌, All, IsTrue, Option, Some, None, refl, sym, ap, subst, length}
+use Rattle.std.specs.Prelude.{◌&&◌}
 use Rattle.std.specs.List.{filter}
 use Rattle.std.specs.Option.{IsSomeAnd, MatchOption, option_and_then, option_map, option_map_or, unwrap_or}
 use Rattle.std.specs.Str.{bytes_eq}
 use Rattle.std.proofs.lemmas.Bool.{and_from, cases_lt, eq-eqb}
 use Rattle.std.proofs.lemmas.List.Elements.{All-nil, All-filter, All-push, All-weaker}
 use Rattle.std.proofs.lemmas.Slice.Eq.{bytes_eq-Decides}
-use Rattle.dev_types.specs.DataTypes.{byte_size, type_number}
+use Rattle.dev_types.specs.DataTypes.{type_number}
 use Rattle.dev_types.specs.Words.{name_of_channel}
 use Rattle.dev_types.specs.declared.data_types.DataType.{DataType}
 use Rattle.dev_types.specs.declared.data_types.DataType.TheVariants as ty
@@ -19,16 +19,15 @@ use Rattle.kind_tables.specs.declared.kinds.Kind.{Kind}
 use Rattle.kind_tables.specs.declared.kinds.Kind.TheVariants.{Array}
 use Rattle.seq_model.proofs.Afters.{after_more, entry_early, entry_last, entry_late, grows_by}
 use Rattle.seq_model.proofs.Came.{swept_was}
-use Rattle.seq_model.proofs.Changes.{entry_changes}
 use Rattle.seq_model.proofs.Handles.{changed_rises, changed, rises, step_state}
-use Rattle.seq_model.proofs.Loans.{Each, each_changed, each_discarded, each_ended, each_new, each_stays}
+use Rattle.seq_model.proofs.Loans.{Each, each_changed, each_discarded, each_ended, each_new}
 use Rattle.seq_model.proofs.Sweeps.{place_after}
-use Rattle.seq_model.specs.Histories.{History, entry_at}
+use Rattle.seq_model.specs.Histories.{History}
 use Rattle.seq_model.specs.Lending.{IsAt, WasLent, lends_array, lends_channel, lends_parameter}
-use Rattle.seq_model.specs.State.{ArrayState, Object, ParameterLoan, Phase, Empty, Flight, Done, State, array_loan, changed_at, content_of_loan, object_at, parameter_loan, with_object}
-use Rattle.seq_model.specs.Steps.{Past, after, change, change_array, commit, discard, effect, end_flights, end_parameter_loan, fresh, fresh_array, holding, lend_parameter, lent, map_channel, next_place, set_phase, set_staged, step, take_in, unmap_channel, unmap_parameter, with_value, without_value}
+use Rattle.seq_model.specs.State.{ArrayState, Object, ParameterLoan, Empty, Flight, Done, State, array_loan, changed_at, content_of_loan, object_at, parameter_loan, with_object}
+use Rattle.seq_model.specs.Steps.{Past, after, change, change_array, commit, effect, end_flights, end_parameter_loan, fresh, fresh_array, holding, lend_parameter, lent, map_channel, set_phase, set_staged, step, take_in, unmap_channel, unmap_parameter, with_value, without_value}
 use Rattle.seq_model.specs.declared.calls.Call.{Call}
-use Rattle.seq_model.specs.declared.calls.Call.TheVariants.{NewObject, NewArray, Retain, Release, SetParameter, UnsetParameter, UnsetAll, Commit, MapArray, UnmapArray, MapParameterArray, UnmapParameterArray, RenderFrame, FrameReady, DiscardFrame, MapFrame, UnmapFrame, GetProperty, Subtypes, ObjectInfo, ParameterInfo}
+use Rattle.seq_model.specs.declared.calls.Call.TheVariants.{NewObject, NewArray, SetParameter, UnsetParameter, UnsetAll, Commit, MapArray, UnmapArray, MapParameterArray, UnmapParameterArray, RenderFrame, DiscardFrame, MapFrame, UnmapFrame}
 use Rattle.seq_model.specs.declared.calls.Entry.{Entry}
 use Rattle.seq_model.specs.declared.calls.Entry.TheVariants.{Called, Finished, Left, Closed}
 use Rattle.seq_model.specs.declared.calls.Reply.{Reply}
@@ -49,9 +48,9 @@ lent_longer : (history further : History) (h : ℕ) (o : Object) → WasLent his
 lent_longer history further h o was = record {
   array = by (array_loan o) was.array;
   parameters = All-weaker (λ (loan : ParameterLoan). IsAt history loan.number (lends_parameter h loan)) (λ (loan : ParameterLoan). IsAt (history ++ further) loan.number (lends_parameter h loan))
-    (λ loan is. stays_at history further loan.number (lends_parameter h loan) is) o.parameter_loans was.parameters;
+      (λ loan is. stays_at history further loan.number (lends_parameter h loan) is) o.parameter_loans was.parameters;
   channels = All-weaker (λ (m : Channel × ℕ). IsAt history m.1 (lends_channel h m.0)) (λ (m : Channel × ℕ). IsAt (history ++ further) m.1 (lends_channel h m.0))
-    (λ m is. stays_at history further m.1 (lends_channel h m.0) is) o.channels was.channels;
+      (λ m is. stays_at history further m.1 (lends_channel h m.0) is) o.channels was.channels;
 }
   where
     by : (x : Option ℕ) → MatchOption x (Unit {0}) (λ place. IsAt history place (lends_array h)) → MatchOption x (Unit {0}) (λ place. IsAt (history ++ further) place (lends_array h))
@@ -97,8 +96,8 @@ parameter_is_lent : (history : History) (actor h : ℕ) (name : List ℕ) (elem 
 parameter_is_lent history actor h name elem count number o was = record {
   array = was.array;
   parameters = All-push (λ (loan : ParameterLoan). IsAt (history ++ Called actor (MapParameterArray h name elem count) (reply.Lent number) ∷ []) loan.number (lends_parameter h loan)) o.parameter_loans
-    (record { number = length history + 1; name = name; elem = elem; count = count }) was.parameters
-    (stands_last history (Called actor (MapParameterArray h name elem count) (reply.Lent number)) (lends_parameter h (record { number = length history + 1; name = name; elem = elem; count = count })) says);
+      (record { number = length history + 1; name = name; elem = elem; count = count }) was.parameters
+      (stands_last history (Called actor (MapParameterArray h name elem count) (reply.Lent number)) (lends_parameter h (record { number = length history + 1; name = name; elem = elem; count = count })) says);
   channels = was.channels;
 }
   where
@@ -115,8 +114,8 @@ channel_is_lent history actor h channel width height kind rows o was = record {
   array = was.array;
   parameters = was.parameters;
   channels = All-push (λ (m : Channel × ℕ). IsAt (history ++ Called actor (MapFrame h channel) (reply.Mapped width height kind rows) ∷ []) m.1 (lends_channel h m.0)) o.channels (channel, length history + 1) was.channels
-    (stands_last history (Called actor (MapFrame h channel) (reply.Mapped width height kind rows)) (lends_channel h channel)
-    (and_from (h == h) (bytes_eq (name_of_channel channel) (name_of_channel channel)) (eq-eqb h h refl) (same_bytes (name_of_channel channel))));
+      (stands_last history (Called actor (MapFrame h channel) (reply.Mapped width height kind rows)) (lends_channel h channel)
+      (and_from (h == h) (bytes_eq (name_of_channel channel) (name_of_channel channel)) (eq-eqb h h refl) (same_bytes (name_of_channel channel))));
 }
 
 taken_lent : (history : History) (h : ℕ) (name bytes : List ℕ) (s : State) (x : Option ParameterLoan) → Each (WasLent history) s → Each (WasLent history) (option_map_or (λ loan. take_in h name bytes loan s) x s)
@@ -143,8 +142,11 @@ call_lent history actor (NewObject t subtype) (reply.Made made) s all = made_len
 call_lent history actor (NewArray elem count stride origin bytes) (reply.Made made) s all =
     let now = WasLent (history ++ Called actor (NewArray elem count stride origin bytes) (reply.Made made) ∷ []) in
     each_new now now (λ k o was. was) (fresh_array elem count stride origin bytes) s
-    (λ k. record { array = tt; parameters = All-nil (λ (loan : ParameterLoan). IsAt (history ++ Called actor (NewArray elem count stride origin bytes) (reply.Made made) ∷ []) loan.number (lends_parameter k loan));
-      channels = All-nil (λ (m : Channel × ℕ). IsAt (history ++ Called actor (NewArray elem count stride origin bytes) (reply.Made made) ∷ []) m.1 (lends_channel k m.0)) }) all
+    (λ k. record {
+      array = tt;
+      parameters = All-nil (λ (loan : ParameterLoan). IsAt (history ++ Called actor (NewArray elem count stride origin bytes) (reply.Made made) ∷ []) loan.number (lends_parameter k loan));
+      channels = All-nil (λ (m : Channel × ℕ). IsAt (history ++ Called actor (NewArray elem count stride origin bytes) (reply.Made made) ∷ []) m.1 (lends_channel k m.0));
+    }) all
 call_lent history actor (SetParameter h name v) reply.Done s all =
     let longer : History = history ++ Called actor (SetParameter h name v) reply.Done ∷ [] in
     each_changed (WasLent longer) (WasLent longer) (λ k o was. was) h (set_staged (with_value name v)) s (λ o was. same_lent longer h o (set_staged (with_value name v) o) refl refl refl was) all

@@ -1,10 +1,9 @@
 -- The numbers of the loans of an object: places of the past, each once.
-use Rattle.std.proofs.Common.{ℕ, ◌+◌, ◌==◌, ◌≡◌, ◌<◌, ◌≤◌, ◌∙◌, ◌⊎◌, inl, inr, Bool, true, false, not, List, [], ◌∷◌, ◌++◌, Option, Some, None, map, refl, sym, ap, subst, length, arith, length-append}
+use Rattle.std.proofs.Common.{ℕ, ◌+◌, ◌==◌, ◌≡◌, ◌≤◌, ◌∙◌, ◌⊎◌, inl, inr, Bool, true, false, not, List, [], ◌∷◌, ◌++◌, Option, Some, None, map, refl, sym, ap, subst, length, arith, length-append}
 use Rattle.std.specs.Prelude.{cond}
 use Rattle.std.specs.List.{filter}
-use Rattle.std.specs.Option.{IsSomeAnd, option_and_then, option_map, option_map_or, unwrap_or}
+use Rattle.std.specs.Option.{option_and_then, option_map, option_map_or, unwrap_or}
 use Rattle.std.proofs.lemmas.Bool.{cases_eq}
-use Rattle.dev_types.specs.DataTypes.{byte_size}
 use Rattle.dev_types.specs.declared.data_types.DataType.TheVariants as ty
 use Rattle.dev_types.specs.declared.handles.Channel.{Channel}
 use Rattle.dev_types.specs.declared.handles.Origin.TheVariants.{Managed}
@@ -12,17 +11,17 @@ use Rattle.dev_types.specs.declared.values.Value.TheVariants as value
 use Rattle.kind_tables.specs.Kinds.{kind_of}
 use Rattle.kind_tables.specs.declared.kinds.Kind.{Kind}
 use Rattle.kind_tables.specs.declared.kinds.Kind.TheVariants.{Array}
-use Rattle.seq_model.proofs.Afters.{after_more, grows_by, seen_is_history}
+use Rattle.seq_model.proofs.Afters.{after_more, grows_by}
 use Rattle.seq_model.proofs.Came.{added, end_is, swept_was}
-use Rattle.seq_model.proofs.Changes.{changed_here, entry_changes, others_unchanged}
+use Rattle.seq_model.proofs.Changes.{changed_here, others_unchanged}
 use Rattle.seq_model.proofs.Handles.{changed_rises, changed, rises, step_state}
 use Rattle.seq_model.proofs.Keys.{RisesWithin, at, at_map, rises_from_lower, rises_to_higher, rises_with_next}
 use Rattle.seq_model.proofs.Sweeps.{place_after}
 use Rattle.seq_model.specs.Histories.{History}
 use Rattle.seq_model.specs.State.{ArrayState, Object, ParameterLoan, Phase, Empty, Flight, Done, State, changed_at, content_of_loan, object_at, parameter_loan, with_object}
-use Rattle.seq_model.specs.Steps.{Past, after, change, change_array, commit, discard, effect, end_flight, end_flights, end_parameter_loan, fresh, fresh_array, holding, lend_parameter, lent, map_channel, next_place, set_phase, set_staged, step, stop, take_in, unmap_channel, unmap_parameter, with_value, without_value}
+use Rattle.seq_model.specs.Steps.{Past, after, change, change_array, commit, discard, effect, end_flight, end_flights, end_parameter_loan, fresh, fresh_array, holding, lend_parameter, lent, map_channel, set_phase, set_staged, step, stop, take_in, unmap_channel, unmap_parameter, with_value, without_value}
 use Rattle.seq_model.specs.declared.calls.Call.{Call}
-use Rattle.seq_model.specs.declared.calls.Call.TheVariants.{NewObject, NewArray, Retain, Release, SetParameter, UnsetParameter, UnsetAll, Commit, MapArray, UnmapArray, MapParameterArray, UnmapParameterArray, RenderFrame, FrameReady, DiscardFrame, MapFrame, UnmapFrame, GetProperty, Subtypes, ObjectInfo, ParameterInfo}
+use Rattle.seq_model.specs.declared.calls.Call.TheVariants.{NewObject, NewArray, SetParameter, UnsetParameter, UnsetAll, Commit, MapArray, UnmapArray, MapParameterArray, UnmapParameterArray, RenderFrame, DiscardFrame, MapFrame, UnmapFrame}
 use Rattle.seq_model.specs.declared.calls.Entry.{Entry}
 use Rattle.seq_model.specs.declared.calls.Entry.TheVariants.{Called, Finished, Left, Closed}
 use Rattle.seq_model.specs.declared.calls.Reply.{Reply}
@@ -51,6 +50,7 @@ module _ (P Q : ℕ → Object → Type 0) (weaker : (h : ℕ) (o : Object) → 
       here : (x : Option Object) → object_at s h ≡ x → option_map f x ≡ Some p → Q h p
       here None was is = absurd cc
       here (Some o) was is = let value : f o ≡ p = cc in subst (Q h) value (stays o (all h o was))
+
       by : (k ≡ h) ⊎ (k ≡ h → ⊥) → Q k p
       by (inl at_h) = subst (λ k. Q k p) (sym at_h) (here (object_at s h) refl (sym (changed_here h f s) ∙ ap (object_at (changed_at h f s)) (sym at_h) ∙ found))
       by (inr apart) = weaker k p (all k p (sym (others_unchanged h k f s apart) ∙ found))
@@ -72,6 +72,7 @@ module _ (P Q : ℕ → Object → Type 0) (weaker : (h : ℕ) (o : Object) → 
       of : (o : Object) → P k o → (end_flight u phase o ≡ o) ⊎ ((o.phase ≡ Flight u) × (end_flight u phase o ≡ set_phase phase o)) → Q k (end_flight u phase o)
       of o now (inl same) = subst (Q k) (sym same) (weaker k o now)
       of o now (inr ended) = subst (Q k) (sym ended.1) (stays k o now)
+
       from : (x : Option Object) → object_at s k ≡ x → option_map (end_flight u phase) x ≡ Some p → Q k p
       from None was is = absurd cc
       from (Some o) was is = let value : end_flight u phase o ≡ p = cc in subst (Q k) value (of o (all k o was) (end_is u phase o))

@@ -1,37 +1,30 @@
 -- What the objects of a legal history name is there and stands lower, also as a scene sees them; and which objects live.
-use Rattle.std.proofs.Common.{ℕ, ◌+◌, ◌==◌, ◌≡◌, ◌<◌, ◌≤◌, ◌∙◌, ◌⊎◌, inl, inr, Bool, true, false, List, [], ◌∷◌, ◌++◌, All, IsTrue, Option, Some, None, map, refl, sym, ap, subst, arith}
+use Rattle.std.proofs.Common.{ℕ, ◌≡◌, ◌<◌, ◌∙◌, true, List, [], ◌∷◌, All, Option, Some, None, map, refl, sym, ap, subst}
 use Rattle.std.specs.BTreeMap.{is_at}
 use Rattle.std.specs.Cmp.Lexicographic.{slice_cmp}
 use Rattle.std.specs.List.{filter_map}
-use Rattle.std.specs.Map.{keys_of, lookup}
-use Rattle.std.specs.Option.{IfSome, IsSomeAnd, MatchOption, option_and_then, option_map, unwrap_or}
+use Rattle.std.specs.Option.{IfSome, IsSomeAnd, MatchOption, option_and_then, option_map}
 use Rattle.std.specs.Ordering.{nat_cmp}
-use Rattle.std.proofs.lemmas.Bool.{eq-eqb, or_left, or_right}
-use Rattle.std.proofs.lemmas.List.Elements.{All-nil, All-cons, All-append, All-head, All-map, All-tail, All-weaker}
+use Rattle.std.proofs.lemmas.List.Elements.{All-nil, All-cons, All-append, All-map, All-weaker}
 use Rattle.std.proofs.lemmas.Map.Entries.{All-lookup}
 use Rattle.dev_types.specs.declared.values.Value.{Value}
 use Rattle.kind_tables.specs.Ranks.{rank_of}
 use Rattle.kind_tables.specs.Rows.{rows_of}
-use Rattle.kind_tables.specs.SceneObjects.{SceneObject, object_in, objects_in, value_named}
+use Rattle.kind_tables.specs.SceneObjects.{SceneObject, object_in, value_named}
 use Rattle.kind_tables.specs.WalkRanks.{AreRanked, StandsBelow, names_of as scene_names}
 use Rattle.kind_tables.specs.Walks.{named_elements, named_parameters}
 use Rattle.kind_tables.specs.declared.kinds.Kind.{Kind}
 use Rattle.kind_tables.specs.declared.rows.Row.{Row}
-use Rattle.seq_model.proofs.Afters.{after_more}
-use Rattle.seq_model.proofs.Changes.{entry_changes}
-use Rattle.seq_model.proofs.Handles.{IsRising, change_rises, changed, rises, root_of, step_state}
-use Rattle.seq_model.proofs.Keys.{RisesWithin, all_from_at, at, at_map}
-use Rattle.seq_model.proofs.Prefixes.{in_place, prefix_is_legal}
-use Rattle.seq_model.proofs.Ranked.{IsRanked, closed, supported_lives}
+use Rattle.seq_model.proofs.Handles.{rises}
+use Rattle.seq_model.proofs.Keys.{all_from_at, at_map}
 use Rattle.seq_model.proofs.Sound.{IsLower, fitting_is_lower, has_head, has_tail, in_elements, names_are_lower, sound_at}
-use Rattle.seq_model.proofs.SoundHistories.{changed_is_sound, legal_is_sound, sound_is_ranked}
+use Rattle.seq_model.proofs.SoundHistories.{legal_is_sound}
 use Rattle.seq_model.specs.Histories.{History}
 use Rattle.seq_model.specs.Legal.{Legal}
-use Rattle.seq_model.specs.Life.{has, live, names_of, objects_of_elements}
-use Rattle.seq_model.specs.Soundness.{AllFit, AllSound, Fits, IsSound, NamesFitting}
+use Rattle.seq_model.specs.Life.{has, names_of, objects_of_elements}
+use Rattle.seq_model.specs.Soundness.{AllFit, Fits, IsSound, NamesFitting}
 use Rattle.seq_model.specs.State.{ArrayState, Object, State, object_at, scene_object, scene_objects}
-use Rattle.seq_model.specs.Steps.{Past, after, change, next_place, step, swept}
-use Rattle.seq_model.specs.declared.calls.Entry.{Entry}
+use Rattle.seq_model.specs.Steps.{after}
 
 -- what holds of each number that a list has holds of all its items
 all_from_has : (P : ℕ → Type 0) (ks : List ℕ) → ((k : ℕ) → has k ks ≡ true → P k) → All P ks
@@ -77,6 +70,7 @@ parameters_stand_lower s o fit =
     lower =
         All-weaker (λ (entry : List ℕ × Value). Fits s o.kind entry.0 entry.1) (λ (entry : List ℕ × Value). IsLowerValue s o.kind entry.1)
         (λ entry fits. lower_value s o.kind entry.0 (object_in entry.1) fits.named) o.committed fit
+
     by : (row : List ℕ × Row) (k : ℕ) (x : Option Value) → value_named row.0 o.committed ≡ x → option_and_then object_in (value_named row.0 o.committed) ≡ Some k → StandsBelow (scene_objects s) (rank_of o.kind) k
     by row k None is named = let none : None ≡ Some k = sym (ap (option_and_then object_in) is) ∙ named in absurd cc
     by row k (Some v) is named =

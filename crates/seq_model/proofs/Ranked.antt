@@ -1,5 +1,5 @@
 -- Where what is named stands lower, the live objects are closed under naming, and a set that holds itself up from the roots lives.
-use Rattle.std.proofs.Common.{ℕ, zero, suc, ◌+◌, ◌-◌, ◌≡◌, ◌<◌, ◌≤◌, ◌∙◌, ◌⊎◌, inl, inr, Bool, true, false, List, [], ◌∷◌, Option, Some, None, refl, sym, ap, subst, arith}
+use Rattle.std.proofs.Common.{ℕ, zero, suc, ◌-◌, ◌≡◌, ◌<◌, ◌≤◌, ◌∙◌, ◌⊎◌, inl, inr, Bool, true, Some, refl, sym, ap, subst, arith}
 use Rattle.std.specs.Prelude.{nat_lt}
 use Rattle.std.specs.Map.{keys_of}
 use Rattle.std.specs.Option.{IsSomeAnd}
@@ -37,6 +37,7 @@ module _ (root : ℕ × Object → Bool) (low high : ℕ) (objects : Objects) (r
     where
       there : at h objects ≡ Some o
       there = (is_in root low high objects rising (suc n) h o found).0
+
       by : ((k : ℕ) (p : Object) → at k (grown root objects n) ≡ Some p → at k (grown root objects (9 - rank_of p.kind)) ≡ Some p) →
           (root (h, o) ≡ true) ⊎ ((k : ℕ) × (p : Object) × (at k (grown root objects n) ≡ Some p) × (has h (names_of p) ≡ true)) → at h (grown root objects (9 - rank_of o.kind)) ≡ Some o
       by lower (inl is) = root_is_in root low high objects rising (9 - rank_of o.kind) h o there is
@@ -86,6 +87,8 @@ module _ (root : ℕ × Object → Bool) (low high : ℕ) (objects : Objects) (r
   -- lives
   pub supported_lives : (M : ℕ → Type 0) → ((k : ℕ) → M k → Supports M k) → (k : ℕ) → M k → (o : Object) × (at k (live root objects) ≡ Some o)
   supported_lives M holds k member =
-      let one = holds k member in
-      (one.0, lives_from root low high objects rising k one.0
-      (in_within root low high objects rising (9 - rank_of one.0.kind) 10 k one.0 (omega arith) (supported_by M holds (9 - rank_of one.0.kind) k one.0 (omega arith) member one.1)))
+      let one = holds k member in (
+        one.0,
+        lives_from root low high objects rising k one.0
+            (in_within root low high objects rising (9 - rank_of one.0.kind) 10 k one.0 (omega arith) (supported_by M holds (9 - rank_of one.0.kind) k one.0 (omega arith) member one.1)),
+      )

@@ -1,14 +1,13 @@
 -- What a render that was granted walks is complete, within the limits, in range, and not mapped.
-use Rattle.std.proofs.Common.{ℕ, ◌≡◌, ◌≤◌, ◌∙◌, Bool, true, false, List, [], ◌∷◌, ◌++◌, All, Option, Some, None, refl, sym, ap, length, arith}
+use Rattle.std.proofs.Common.{ℕ, ◌≡◌, ◌≤◌, ◌∙◌, Bool, true, false, List, [], ◌∷◌, ◌++◌, All, Option, Some, None, refl, sym, ap, length}
 use Rattle.std.specs.Prelude.{cond, nat_lt}
 use Rattle.std.specs.List.{find}
 use Rattle.std.specs.Option.{option_map, option_or}
 use Rattle.std.proofs.lemmas.Bool.{ltb-false}
 use Rattle.std.proofs.lemmas.List.Elements.{All-nil, All-cons}
-use Rattle.dev_types.specs.declared.refusals.Refused.{Refused}
 use Rattle.dev_types.specs.declared.refusals.Refused.TheVariants.{ArrayMapped, Incomplete, OutOfRange, TooMany}
 use Rattle.kind_tables.specs.Ranges.{broken_parameter}
-use Rattle.kind_tables.specs.SceneObjects.{SceneObject, SceneObjects}
+use Rattle.kind_tables.specs.SceneObjects.{SceneObjects}
 use Rattle.kind_tables.specs.Scenes.{lights_of, primitives_of}
 use Rattle.kind_tables.specs.WalkRefusals.{fault_of, first_answer, first_incomplete, first_limit, first_mapped, first_out_of_range, missing_parameter, surface_count, too_many}
 use Rattle.kind_tables.specs.Walks.{Visit, walk}

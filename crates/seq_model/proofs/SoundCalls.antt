@@ -1,47 +1,35 @@
 -- The state after an entry of a legal history is sound where the one before it was.
-use Rattle.std.proofs.Common.{ℕ, zero, suc, ◌+◌, ◌*◌, ◌==◌, ◌≡◌, ◌<◌, ◌≤◌, ◌∙◌, ◌⊎◌, inl, inr, Bool, true, false, not, List, [], ◌∷◌, ◌++◌, All, Option, Some, None, map, refl, sym, ap, subst, length, arith}
+use Rattle.std.proofs.Common.{ℕ, ◌+◌, ◌*◌, ◌==◌, ◌≡◌, ◌<◌, ◌∙◌, ◌⊎◌, inl, inr, Bool, true, false, not, List, [], ◌∷◌, All, Option, Some, None, map, refl, sym, ap, subst, length, arith}
 use Rattle.std.specs.Prelude.{cond, ◌||◌, ◌&&◌}
-use Rattle.std.specs.BTreeMap.{is_at}
-use Rattle.std.specs.Cmp.Lexicographic.{slice_cmp}
-use Rattle.std.specs.List.{filter, find, list_all, list_any}
-use Rattle.std.specs.Map.{set_value}
-use Rattle.std.specs.Option.{IsSomeAnd, MatchOption, option_and_then, option_map, option_map_or, option_or, unwrap_or}
-use Rattle.std.specs.Ordering.{nat_cmp}
+use Rattle.std.specs.List.{find, list_all, list_any}
+use Rattle.std.specs.Option.{IsSomeAnd, option_and_then, option_map, option_map_or, option_or}
 use Rattle.std.specs.Str.{bytes_eq}
-use Rattle.std.proofs.lemmas.Bool.{and_parts, eq-eqb, eqb-true, not-false, or_cases}
+use Rattle.std.proofs.lemmas.Bool.{and_parts, eqb-true, not-false, or_cases}
 use Rattle.std.proofs.lemmas.List.Elements.{All-nil, All-cons, All-filter, All-head, All-push, All-tail}
 use Rattle.std.proofs.lemmas.Slice.Eq.{bytes_eq-Decides}
 use Rattle.dev_types.specs.Blocks.{needed_length}
 use Rattle.dev_types.specs.DataTypes.{byte_size, is_element_type}
-use Rattle.dev_types.specs.ValueBytes.{type_of}
 use Rattle.dev_types.specs.declared.data_types.DataType.{DataType}
-use Rattle.dev_types.specs.declared.data_types.DataType.TheVariants as ty
 use Rattle.dev_types.specs.declared.handles.Origin.{Origin}
 use Rattle.dev_types.specs.declared.handles.Origin.TheVariants.{Captured, Shared, Managed}
 use Rattle.dev_types.specs.declared.refusals.Refused.{Refused}
 use Rattle.dev_types.specs.declared.refusals.Refused.TheVariants.{BadShape, BadType, NotMapped}
 use Rattle.dev_types.specs.declared.values.Value.{Value}
-use Rattle.dev_types.specs.declared.values.Value.TheVariants as value
 use Rattle.kind_tables.specs.Kinds.{kind_of, type_of_kind}
-use Rattle.kind_tables.specs.Rows.{row_of}
 use Rattle.kind_tables.specs.SceneObjects.{Block, objects_in}
 use Rattle.kind_tables.specs.WalkRefusals.{first_answer}
 use Rattle.kind_tables.specs.declared.kinds.Kind.{Kind}
 use Rattle.kind_tables.specs.declared.kinds.Kind.TheVariants.{Array}
-use Rattle.kind_tables.specs.declared.rows.Row.{Row}
-use Rattle.seq_model.proofs.Granted.{AllNone, all_none, does_not_apply, find_passes, first_is_none, out_is_numbered}
+use Rattle.seq_model.proofs.Granted.{AllNone, all_none, does_not_apply, first_is_none, out_is_numbered}
 use Rattle.seq_model.proofs.Keys.{RisesWithin}
-use Rattle.seq_model.proofs.Loans.{HasEarlierLoans, parameter_numbers}
-use Rattle.seq_model.proofs.Creations.{loan_of_parameter}
-use Rattle.seq_model.proofs.Sound.{all_sound, changed_sound, ended_sound, new_sound, sound_at}
-use Rattle.seq_model.proofs.SoundSteps.{all_with_value, all_without, has_that_type, loan_fits, not_wrong, set_fits, zeros_name_nothing}
+use Rattle.seq_model.proofs.SoundSteps.{has_that_type, not_wrong, zeros_name_nothing}
 use Rattle.seq_model.proofs.Tables.{is_array, made_is_no_array}
-use Rattle.seq_model.specs.Legal.{are_elements_sound, content_of_array, content_of_parameter, is_content_sound}
-use Rattle.seq_model.specs.Refusals.{bad_elements, dead, first_of, given_handles, has_type, is_array_loan_out, is_bad_shape, is_parameter_loan_out, is_parameter_out, not_held, refusal, refusals_of, wrong_kind}
-use Rattle.seq_model.specs.Soundness.{AllFit, AllSound, ArrayFits, ElementsFit, Fits, IsSound, LoanFits, NamesFitting, Takes}
-use Rattle.seq_model.specs.State.{ArrayState, Object, ParameterLoan, Phase, Empty, Flight, Done, State, changed_at, content_of_loan, object_at, parameter_loan, with_bytes, with_object}
-use Rattle.seq_model.specs.Steps.{Past, change_array, commit, discard, end_parameter_loan, first_bytes, fresh, fresh_array, holding, lend_parameter, lent, map_channel, set_phase, set_staged, stop, take_in, unmap_channel, with_value, without_value, zeros}
-use Rattle.seq_model.specs.declared.calls.Call.TheVariants.{NewArray, UnmapArray, UnmapParameterArray}
+use Rattle.seq_model.specs.Legal.{are_elements_sound, content_of_array, is_content_sound}
+use Rattle.seq_model.specs.Refusals.{bad_elements, first_of, given_handles, has_type, is_array_loan_out, is_bad_shape, is_parameter_out, refusal, refusals_of, wrong_kind}
+use Rattle.seq_model.specs.Soundness.{AllFit, ArrayFits, ElementsFit, Fits, IsSound, LoanFits}
+use Rattle.seq_model.specs.State.{ArrayState, Object, ParameterLoan, State, content_of_loan, object_at, parameter_loan, with_bytes}
+use Rattle.seq_model.specs.Steps.{Past, change_array, commit, end_parameter_loan, first_bytes, fresh, fresh_array, holding, lend_parameter, lent, set_staged}
+use Rattle.seq_model.specs.declared.calls.Call.TheVariants.{NewArray, UnmapArray}
 
 -- what a test of all items tells of each
 each_passes : {X : Type 0} (p : X → Bool) (Q : X → Type 0) → ((x : X) → p x ≡ true → Q x) → (xs : List X) → list_all p xs ≡ true → All Q xs
@@ -66,6 +54,7 @@ asked_elements past elem (n ∷ named) none =
     parts : (x y : Option Refused) → option_or x y ≡ None → (x ≡ None) × (y ≡ None)
     parts None y is = (refl, is)
     parts (Some x) y is = absurd cc
+
     first : (wrong_kind past n.1 elem ≡ None) × (first_answer (λ h. wrong_kind past h elem) (map (λ (n : ℕ × ℕ). n.1) named) ≡ None)
     first = parts (wrong_kind past n.1 elem) (first_answer (λ h. wrong_kind past h elem) (map (λ (n : ℕ × ℕ). n.1) named)) none
 
@@ -94,6 +83,7 @@ new_array_sound past elem count stride origin bytes none = record {
   where
     facts : (is_element_type elem ≡ true) × ElementsFit past.state (record { elem = elem; count = count; stride = stride; bytes = bytes })
     facts = array_facts past elem count stride origin bytes none
+
     by : (origin : Origin) → ElementsFit past.state (record { elem = elem; count = count; stride = stride; bytes = first_bytes origin (needed_length elem stride count) bytes })
     by (Captured user) = facts.1
     by (Shared user) = facts.1
@@ -158,9 +148,12 @@ returned_sound past h number bytes o none content found sound =
     by None is fits = fits
     by (Some a) is fits =
         let here : content_of_array past h bytes ≡ Some (with_bytes bytes a.block) =
-        ap (λ x. option_map (λ a. with_bytes bytes a.block) (option_and_then (λ o. o.array) x)) found ∙ ap (option_map (λ a. with_bytes bytes a.block)) is in
-        (fits.0, fits.1, sound_elements past (with_bytes bytes a.block)
-        (content_is_sound (is_array_loan_out past.state h number (length bytes)) (content_of_array past h bytes) past (with_bytes bytes a.block) (out_is_there past h number bytes none) content here))
+        ap (λ x. option_map (λ a. with_bytes bytes a.block) (option_and_then (λ o. o.array) x)) found ∙ ap (option_map (λ a. with_bytes bytes a.block)) is in (
+          fits.0,
+          fits.1,
+          sound_elements past (with_bytes bytes a.block)
+              (content_is_sound (is_array_loan_out past.state h number (length bytes)) (content_of_array past h bytes) past (with_bytes bytes a.block) (out_is_there past h number bytes none) content here),
+        )
 
 -- the loan of a parameter array that comes back: numbers tell loans apart
 later_numbers : (low high number : ℕ) (loans : List ParameterLoan) (name : List ℕ) (len : ℕ) → RisesWithin low high (map (λ (l : ParameterLoan). l.number) loans) → number < low →

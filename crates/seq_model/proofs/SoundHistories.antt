@@ -1,51 +1,44 @@
 -- Every legal history leads to a sound state.
-use Rattle.std.proofs.Common.{ℕ, zero, suc, ◌+◌, ◌==◌, ◌≡◌, ◌<◌, ◌≤◌, ◌∙◌, ◌⊎◌, inl, inr, Bool, true, false, not, List, [], ◌∷◌, ◌++◌, All, IsTrue, Option, Some, None, map, refl, sym, ap, subst, length, arith}
-use Rattle.std.specs.Prelude.{cond, ◌||◌}
+use Rattle.std.proofs.Common.{ℕ, zero, suc, ◌+◌, ◌==◌, ◌≡◌, ◌∙◌, Bool, true, false, not, List, [], ◌∷◌, ◌++◌, Option, Some, None, refl, sym, ap, subst, length, arith}
+use Rattle.std.specs.Prelude.{cond}
 use Rattle.std.specs.BTreeMap.{is_at}
 use Rattle.std.specs.Cmp.Lexicographic.{slice_cmp}
 use Rattle.std.specs.List.{filter, list_any}
-use Rattle.std.specs.Map.{keys_of, set_value}
+use Rattle.std.specs.Map.{set_value}
 use Rattle.std.specs.Option.{IsSomeAnd, MatchOption, option_and_then, option_map, option_map_or, option_or, unwrap_or}
 use Rattle.std.specs.Ordering.{nat_cmp}
 use Rattle.std.proofs.lemmas.List.Elements.{All-nil}
-use Rattle.dev_types.specs.DataTypes.{is_element_type}
-use Rattle.dev_types.specs.ValueBytes.{type_of}
 use Rattle.dev_types.specs.declared.data_types.DataType.{DataType}
 use Rattle.dev_types.specs.declared.data_types.DataType.TheVariants as ty
-use Rattle.dev_types.specs.declared.handles.Origin.TheVariants.{Managed}
 use Rattle.dev_types.specs.declared.values.Value.{Value}
 use Rattle.dev_types.specs.declared.values.Value.TheVariants as value
-use Rattle.kind_tables.specs.Kinds.{kind_of, type_of_kind}
-use Rattle.kind_tables.specs.Ranks.{rank_of}
+use Rattle.kind_tables.specs.Kinds.{kind_of}
 use Rattle.kind_tables.specs.Rows.{row_of}
 use Rattle.kind_tables.specs.SceneObjects.{object_in}
 use Rattle.kind_tables.specs.declared.kinds.Kind.{Kind}
 use Rattle.kind_tables.specs.declared.kinds.Kind.TheVariants.{Array}
 use Rattle.kind_tables.specs.declared.rows.Row.{Row}
-use Rattle.seq_model.proofs.Afters.{after_more}
 use Rattle.seq_model.proofs.Changes.{changed_here, keys_of_changed}
 use Rattle.seq_model.proofs.Creations.{kind_is_there, loan_of_parameter}
 use Rattle.seq_model.proofs.Granted.{given}
-use Rattle.seq_model.proofs.Handles.{IsRising, changed_rises, changed, rises, rises_as, root_of, step_state, sweep_rises, swept_objects}
-use Rattle.seq_model.proofs.Changes.{entry_changes}
-use Rattle.seq_model.proofs.Keys.{RisesWithin, at, at_append, key_here, nothing_outside}
-use Rattle.seq_model.proofs.Loans.{Each, Earlier, loans_are_earlier, parameter_numbers}
+use Rattle.seq_model.proofs.Handles.{IsRising, changed_rises, changed, rises, rises_as, root_of, step_state}
+use Rattle.seq_model.proofs.Keys.{at, at_append, key_here, nothing_outside}
+use Rattle.seq_model.proofs.Loans.{Each, Earlier, loans_are_earlier}
 use Rattle.seq_model.proofs.Prefixes.{legal_by}
 use Rattle.seq_model.proofs.Ranked.{IsRanked, closed}
 use Rattle.seq_model.proofs.Sound.{KeepsAt, all_sound, changed_keeps, changed_sound, ended_sound, names_are_lower, new_sound, sound_at, sound_kept}
 use Rattle.seq_model.proofs.SoundCalls.{committed_sound, content_is_sound, found_fits, lent_sound, named_loan, new_array_sound, new_object_sound, restaged, returned_sound, same_values, taken_array, taken_array_sound, with_loan_sound, without_loan_sound}
 use Rattle.seq_model.proofs.SoundSteps.{all_with_value, all_without, loan_fits, set_fits}
 use Rattle.seq_model.proofs.Came.{swept_was}
-use Rattle.seq_model.specs.Answers.{IsAnswer}
 use Rattle.seq_model.specs.Histories.{History}
 use Rattle.seq_model.specs.Legal.{IsInPlace, Legal, are_elements_sound, content_of_parameter, is_content_sound}
-use Rattle.seq_model.specs.Life.{has, live, names_of}
+use Rattle.seq_model.specs.Life.{has, names_of}
 use Rattle.seq_model.specs.Refusals.{is_parameter_loan_out, is_parameter_out, refusal}
-use Rattle.seq_model.specs.Soundness.{AllFit, AllSound, Fits, IsSound, LoanFits, NamesFitting, Takes}
-use Rattle.seq_model.specs.State.{ArrayState, Object, ParameterLoan, Phase, Empty, Flight, Done, State, changed_at, content_of_loan, object_at, parameter_loan, with_object}
+use Rattle.seq_model.specs.Soundness.{AllSound, Fits, IsSound, LoanFits, NamesFitting, Takes}
+use Rattle.seq_model.specs.State.{Object, ParameterLoan, Phase, Empty, Flight, Done, State, changed_at, content_of_loan, object_at, parameter_loan, with_object}
 use Rattle.seq_model.specs.Steps.{Past, after, change, change_array, commit, discard, effect, end_flights, end_parameter_loan, fresh, fresh_array, holding, lend_parameter, lent, map_channel, next_place, set_phase, set_staged, step, stop, swept, take_in, unmap_channel, unmap_parameter, with_value, without_value}
 use Rattle.seq_model.specs.declared.calls.Call.{Call}
-use Rattle.seq_model.specs.declared.calls.Call.TheVariants.{NewObject, NewArray, Retain, Release, SetParameter, UnsetParameter, UnsetAll, Commit, MapArray, UnmapArray, MapParameterArray, UnmapParameterArray, RenderFrame, FrameReady, DiscardFrame, MapFrame, UnmapFrame, GetProperty, Subtypes, ObjectInfo, ParameterInfo}
+use Rattle.seq_model.specs.declared.calls.Call.TheVariants.{NewObject, NewArray, SetParameter, UnsetParameter, UnsetAll, Commit, MapArray, UnmapArray, MapParameterArray, UnmapParameterArray, RenderFrame, DiscardFrame, MapFrame, UnmapFrame}
 use Rattle.seq_model.specs.declared.calls.Entry.{Entry}
 use Rattle.seq_model.specs.declared.calls.Entry.TheVariants.{Called, Finished, Left, Closed}
 use Rattle.seq_model.specs.declared.calls.Reply.{Reply}
@@ -84,12 +77,15 @@ new_array_fits s kind name loan bytes k named fits there = record { typed = type
   where
     row : IsSomeAnd (row_of kind name) (λ row. (row.ty ≡ ty.Array1D) × (row.elem ≡ Some loan.elem))
     row = subst (λ n. IsSomeAnd (row_of kind n) (λ row. (row.ty ≡ ty.Array1D) × (row.elem ≡ Some loan.elem))) named fits.1
+
     typed : (x : Option Row) → IsSomeAnd x (λ row. (row.ty ≡ ty.Array1D) × (row.elem ≡ Some loan.elem)) → MatchOption x (Unit {0}) (λ row. ty.Array1D ≡ row.ty)
     typed None is = tt
     typed (Some r) is = sym is.0
+
     takes : (x : Option Row) → IsSomeAnd x (λ row. (row.ty ≡ ty.Array1D) × (row.elem ≡ Some loan.elem)) → IsSomeAnd x (λ row. Takes row (Array loan.elem))
     takes None is = is
     takes (Some r) is = (sym is.0, subst (λ x. MatchOption x (Unit {0}) (λ elem. Array loan.elem ≡ Array elem)) (sym is.1) refl)
+
     by : (k : ℕ) → object_at s k ≡ Some (taken_array loan bytes) → MatchOption (object_in (value.Object ty.Array1D k)) (Unit {0}) (NamesFitting s kind name)
     by zero there = tt
     by (suc k) there = subst (λ x. IsSomeAnd x (λ o. IsSomeAnd (row_of kind name) (λ row. Takes row o.kind))) (sym there) (takes (row_of kind name) row)
@@ -103,16 +99,22 @@ taken_sound past h name bytes loan o rising all found fits named content =
   where
     first : State
     first = changed_at h (end_parameter_loan loan.number) past.state
+
     first_there : object_at first h ≡ Some (end_parameter_loan loan.number o)
     first_there = changed_here h (end_parameter_loan loan.number) past.state ∙ ap (option_map (end_parameter_loan loan.number)) found
+
     first_sound : AllSound first
     first_sound = changed_sound h (end_parameter_loan loan.number) past.state (λ p. refl) (λ p was sound. without_loan_sound past.state p loan.number sound) all
+
     first_rising : IsRising first
     first_rising = (rises_as past.state first (keys_of_changed h (end_parameter_loan loan.number) past.state) refl rising).0
+
     second : State
     second = with_object (taken_array loan bytes) first
+
     second_sound : AllSound second
     second_sound = new_sound (taken_array loan bytes) first (sound_kept past.state first (taken_array loan bytes) (λ k is. changed_keeps h (end_parameter_loan loan.number) past.state (λ p. refl) k) (taken_array_sound past loan bytes fits.0 content)) first_sound
+
     stays : (p : Object) → object_at second h ≡ Some p → IsSound second p → IsSound second (set_staged (with_value name (value.Object ty.Array1D past.state.next)) p)
     stays p there sound =
         let same : Some (end_parameter_loan loan.number o) ≡ Some p = sym (there_with (taken_array loan bytes) first h (end_parameter_loan loan.number o) first_there) ∙ there in
@@ -131,14 +133,19 @@ unmapped_sound past place h number name bytes rising earlier all none content =
   where
     there : (o : Object) × (object_at past.state h ≡ Some o) × (list_any (is_parameter_out name number (length bytes)) o.parameter_loans ≡ true)
     there = loan_of_parameter past h number name bytes none
+
     loan : (loan : ParameterLoan) × (parameter_loan number there.0.parameter_loans ≡ Some loan) × (loan.name ≡ name)
     loan = named_loan 1 place number (length bytes) name there.0.parameter_loans (earlier h there.0 there.1).parameters there.2
+
     loan_is : option_and_then (λ (o : Object). parameter_loan number o.parameter_loans) (object_at past.state h) ≡ Some loan.0
     loan_is = ap (option_and_then (λ (o : Object). parameter_loan number o.parameter_loans)) there.1 ∙ loan.1
+
     fits : LoanFits there.0.kind loan.0
     fits = found_fits (LoanFits there.0.kind) (λ loan. loan.number == number) there.0.parameter_loans loan.0 (sound_at past.state h there.0 all there.1).loans loan.1
+
     out : is_parameter_loan_out past.state h name number (length bytes) ≡ true
     out = ap (λ x. option_map_or (λ (o : Object). list_any (is_parameter_out name number (length bytes)) o.parameter_loans) x false) there.1 ∙ there.2
+
     sound_content : are_elements_sound past (content_of_loan loan.0 bytes) ≡ true
     sound_content = content_is_sound (is_parameter_loan_out past.state h name number (length bytes)) (content_of_parameter past h number bytes) past (content_of_loan loan.0 bytes) out content
         (ap (option_map (λ loan. content_of_loan loan bytes)) loan_is)
@@ -219,6 +226,7 @@ sweep_sound past s rising all = all_sound (swept past.seen past.reached s) each
       where
         was : object_at s h ≡ Some o
         was = (swept_was past s h o rising found).0
+
         keeps : (k : ℕ) → has k (names_of o) ≡ true → KeepsAt s (swept past.seen past.reached s) k
         keeps k names p there =
             subst (λ x. IsSomeAnd x (λ q. q.kind ≡ p.kind))

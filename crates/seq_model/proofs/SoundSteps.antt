@@ -1,44 +1,37 @@
 -- Each call that had its way leaves sound what was sound.
-use Rattle.std.proofs.Common.{ℕ, zero, suc, ◌+◌, ◌*◌, ◌==◌, ◌≡◌, ◌<◌, ◌≤◌, ◌∙◌, ◌⊎◌, inl, inr, Bool, true, false, not, List, [], ◌∷◌, ◌++◌, All, Ordering, Less, Equal, Greater, Option, Some, None, map, refl, sym, ap, subst, length, replicate, take, drop, arith}
+use Rattle.std.proofs.Common.{ℕ, zero, suc, ◌*◌, ◌≡◌, ◌∙◌, Bool, true, false, not, List, [], ◌∷◌, All, Ordering, Less, Equal, Greater, Option, Some, None, refl, sym, ap, subst, drop}
 use Rattle.std.specs.Prelude.{cond, ◌||◌, ◌&&◌}
-use Rattle.std.specs.BTreeMap.{insert_entry, is_at}
-use Rattle.std.specs.Bool.{then_some}
 use Rattle.std.specs.Cmp.Lexicographic.{slice_cmp}
 use Rattle.std.specs.Int.{byte_worth, from_le_bytes, sum_through, w64}
-use Rattle.std.specs.List.{filter, filter_map, find, list_all, list_any, range_with_len, slice_index}
-use Rattle.std.specs.Map.{remove_entry, set_value}
-use Rattle.std.specs.Option.{IsSomeAnd, MatchOption, is_none, is_some, option_and_then, option_map, option_map_or, option_or}
+use Rattle.std.specs.List.{filter_map, range_with_len, slice_index}
+use Rattle.std.specs.Map.{remove_entry}
+use Rattle.std.specs.Option.{IsSomeAnd, MatchOption, is_none, is_some, option_and_then, option_map, option_map_or}
 use Rattle.std.specs.Ordering.{match_ordering, nat_cmp}
-use Rattle.std.specs.Str.{bytes_eq}
-use Rattle.std.proofs.lemmas.Bool.{and_from, and_parts, cases_Bool, not-false, not-true, or_cases, or_parts}
-use Rattle.std.proofs.lemmas.List.Elements.{All-nil, All-cons, All-drop, All-filter, All-head, All-push, All-replicate, All-tail, All-take, All-weaker}
+use Rattle.std.proofs.lemmas.Bool.{and_parts, not-false, or_parts}
+use Rattle.std.proofs.lemmas.List.Elements.{All-nil, All-cons, All-drop, All-head, All-replicate, All-tail, All-take}
 use Rattle.std.proofs.lemmas.Map.Lookups.{exact_bytes}
-use Rattle.dev_types.specs.Blocks.{element_of, needed_length, part_of}
+use Rattle.dev_types.specs.Blocks.{element_of, part_of}
 use Rattle.dev_types.specs.DataTypes.{byte_size, is_element_type, is_object_type}
 use Rattle.dev_types.specs.ValueBytes.{is_well_typed, type_of, value_of}
 use Rattle.dev_types.specs.declared.data_types.DataType.{DataType}
 use Rattle.dev_types.specs.declared.data_types.DataType.TheVariants as ty
-use Rattle.dev_types.specs.declared.handles.Origin.{Origin}
-use Rattle.dev_types.specs.declared.handles.Origin.TheVariants.{Captured, Shared, Managed}
-use Rattle.dev_types.specs.declared.refusals.Refused.{Refused}
-use Rattle.dev_types.specs.declared.refusals.Refused.TheVariants.{BadHandle, BadShape, BadType, NotMapped, UnknownObjectParameter, WrongKind}
+use Rattle.dev_types.specs.declared.refusals.Refused.TheVariants.{BadHandle, BadType, UnknownObjectParameter, WrongKind}
 use Rattle.dev_types.specs.declared.values.Value.{Value}
 use Rattle.dev_types.specs.declared.values.Value.TheVariants as value
-use Rattle.kind_tables.specs.Kinds.{is_same_type, kind_of, type_of_kind}
+use Rattle.kind_tables.specs.Kinds.{is_same_type, type_of_kind}
 use Rattle.kind_tables.specs.Rows.{row_of}
-use Rattle.kind_tables.specs.SceneObjects.{Block, element, object_in, objects_in}
-use Rattle.kind_tables.specs.WalkRefusals.{first_answer}
+use Rattle.kind_tables.specs.SceneObjects.{object_in, objects_in}
 use Rattle.kind_tables.specs.declared.kinds.Kind.{Kind}
 use Rattle.kind_tables.specs.declared.kinds.Kind.TheVariants.{Array}
 use Rattle.kind_tables.specs.declared.rows.Row.{Row}
-use Rattle.seq_model.proofs.Granted.{AllNone, all_none, does_not_apply, first_is_none}
+use Rattle.seq_model.proofs.Granted.{AllNone, all_none, does_not_apply}
 use Rattle.seq_model.proofs.Sound.{sound_at}
-use Rattle.seq_model.proofs.Tables.{is_array, made_is_no_array, same_type}
-use Rattle.seq_model.specs.Refusals.{bad_elements, dead, first_of, given_handles, has_elements, has_type, is_array_loan_out, is_bad_shape, is_parameter_out, object_of_value, permits, refusal, refusals_of, refusals_of_map_parameter, refusals_of_set, row_at, takes_arrays_of, wrong_kind, wrong_value}
-use Rattle.seq_model.specs.Soundness.{AllFit, AllSound, ArrayFits, ElementsFit, Fits, IsSound, LoanFits, NamesFitting, Takes}
-use Rattle.seq_model.specs.State.{ArrayState, Object, ParameterLoan, State, content_of_loan, object_at, with_bytes}
-use Rattle.seq_model.specs.Steps.{Past, first_bytes, fresh, fresh_array, with_value, without_value, zeros}
-use Rattle.seq_model.specs.declared.calls.Call.TheVariants.{NewArray, SetParameter, MapParameterArray, UnmapArray, UnmapParameterArray}
+use Rattle.seq_model.proofs.Tables.{same_type}
+use Rattle.seq_model.specs.Refusals.{dead, has_elements, has_type, object_of_value, permits, refusal, refusals_of, refusals_of_map_parameter, refusals_of_set, row_at, takes_arrays_of, wrong_kind, wrong_value}
+use Rattle.seq_model.specs.Soundness.{AllSound, ArrayFits, Fits, IsSound, LoanFits, NamesFitting, Takes}
+use Rattle.seq_model.specs.State.{ArrayState, Object, object_at}
+use Rattle.seq_model.specs.Steps.{Past, with_value, zeros}
+use Rattle.seq_model.specs.declared.calls.Call.TheVariants.{SetParameter, MapParameterArray}
 
 -- maps of parameters
 pub all_with_value : (P : List ℕ × Value → Type 0) (name : List ℕ) (v : Value) (values : List (List ℕ × Value)) → All P values → P (name, v) → All P (with_value name v values)
@@ -115,6 +108,7 @@ takes_value past row t k p permitted found kind_type sound =
   where
     both : (is_same_type t row.ty ≡ true) × (has_elements past (Some k) row.elem ≡ true)
     both = and_parts (is_same_type t row.ty) (has_elements past (Some k) row.elem) permitted
+
     by : (x : Option DataType) → row.elem ≡ x → MatchOption row.elem (Unit {0}) (λ elem. p.kind ≡ Array elem)
     by None is = subst (λ x. MatchOption x (Unit {0}) (λ elem. p.kind ≡ Array elem)) (sym is) tt
     by (Some elem) is =
@@ -138,6 +132,7 @@ named_by_row past kind name t k (Some row) all is there has allowed known =
   where
     one : (o : Object) × (object_at past.state k ≡ Some o)
     one = is_alive past k there
+
     kind_type : type_of_kind one.0.kind ≡ t
     kind_type = subst (λ x. IsSomeAnd x (λ o. type_of_kind o.kind ≡ t)) one.1 (has_that_type past k t has)
 
@@ -165,8 +160,8 @@ pub set_fits : (past : Past) (h : ℕ) (name : List ℕ) (v : Value) (o : Object
     Fits past.state o.kind name v
 set_fits past h name v o none all found = record {
   typed = typed_by_row past o.kind name v (row_of o.kind name) refl
-    (sym (ap (λ x. option_map_or (λ row. not (permits past row v)) x false) (row_here past h name o found))
-    ∙ (or_parts (not (is_well_typed v)) (option_map_or (λ row. not (permits past row v)) (row_at past h name) false) (set_facts past h name v none).typed).1);
+      (sym (ap (λ x. option_map_or (λ row. not (permits past row v)) x false) (row_here past h name o found))
+      ∙ (or_parts (not (is_well_typed v)) (option_map_or (λ row. not (permits past row v)) (row_at past h name) false) (set_facts past h name v none).typed).1);
   named = named_value past h name v o (set_facts past h name v none) all found;
 }
 
@@ -177,15 +172,17 @@ unfolding refusal refusals_of
 loan_fits past h name elem count number o none found =
     let facts : AllNone (refusals_of_map_parameter past h name elem count) = all_none (refusals_of_map_parameter past h name elem count) none in
     let parts : (not (is_element_type elem) ≡ false) × (option_map_or (λ row. not (takes_arrays_of elem row)) (row_at past h name) false ≡ false) =
-    or_parts (not (is_element_type elem)) (option_map_or (λ row. not (takes_arrays_of elem row)) (row_at past h name) false) (does_not_apply (not (is_element_type elem) || option_map_or (λ row. not (takes_arrays_of elem row)) (row_at past h name) false) BadType facts.1.1.0) in
-    (not-false (is_element_type elem) parts.0,
-    by (row_of o.kind name)
-    (sym (ap (λ x. option_map_or (λ row. not (takes_arrays_of elem row)) x false) (row_here past h name o found)) ∙ parts.1)
-    (sym (ap is_none (row_here past h name o found)) ∙ does_not_apply (is_none (row_at past h name)) UnknownObjectParameter facts.1.1.1.0))
+    or_parts (not (is_element_type elem)) (option_map_or (λ row. not (takes_arrays_of elem row)) (row_at past h name) false) (does_not_apply (not (is_element_type elem) || option_map_or (λ row. not (takes_arrays_of elem row)) (row_at past h name) false) BadType facts.1.1.0) in (
+      not-false (is_element_type elem) parts.0,
+      by (row_of o.kind name)
+          (sym (ap (λ x. option_map_or (λ row. not (takes_arrays_of elem row)) x false) (row_here past h name o found)) ∙ parts.1)
+          (sym (ap is_none (row_here past h name o found)) ∙ does_not_apply (is_none (row_at past h name)) UnknownObjectParameter facts.1.1.1.0),
+    )
   where
     says : (row : Row) (x : Option DataType) → row.elem ≡ x → option_map_or (is_same_type elem) row.elem false ≡ true → row.elem ≡ Some elem
     says row None is same = let none : false ≡ true = sym (ap (λ x. option_map_or (is_same_type elem) x false) is) ∙ same in absurd cc
     says row (Some e) is same = is ∙ ap Some (sym (same_type elem e (sym (ap (λ x. option_map_or (is_same_type elem) x false) is) ∙ same)))
+
     by : (x : Option Row) → option_map_or (λ row. not (takes_arrays_of elem row)) x false ≡ false → is_none x ≡ false → IsSomeAnd x (λ row. (row.ty ≡ ty.Array1D) × (row.elem ≡ Some elem))
     by None allowed known = absurd cc
     by (Some row) allowed known =
@@ -223,8 +220,9 @@ zeros_name_nothing elem count stride n = none (range_with_len 0 count)
   where
     each : (i : ℕ) → object_in (element_of elem stride (zeros n) i) ≡ None
     each i = zero_is_none elem (part_of elem stride (zeros n) i)
-      (number_of_zeros (part_of elem stride (zeros n) i)
-      (All-take (λ (b : ℕ). b ≡ 0) (byte_size elem) (drop (i * stride) (zeros n)) (All-drop (λ (b : ℕ). b ≡ 0) (i * stride) (zeros n) (All-replicate (λ (b : ℕ). b ≡ 0) n 0 refl))))
+        (number_of_zeros (part_of elem stride (zeros n) i)
+        (All-take (λ (b : ℕ). b ≡ 0) (byte_size elem) (drop (i * stride) (zeros n)) (All-drop (λ (b : ℕ). b ≡ 0) (i * stride) (zeros n) (All-replicate (λ (b : ℕ). b ≡ 0) n 0 refl))))
+
     none : (is : List ℕ) → filter_map {Y = ℕ × ℕ} (λ i. option_map (λ h. (i, h)) (object_in (element_of elem stride (zeros n) i))) is ≡ []
     none [] = refl
     none (i ∷ is) = rw (each i) (none is)

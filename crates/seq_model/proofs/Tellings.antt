@@ -1,43 +1,38 @@
 -- Each captured array is told once: not before it is gone, and at the latest with the close.
 use Rattle.std.proofs.Common.{ℕ, ◌+◌, ◌==◌, ◌≡◌, ◌<◌, ◌≤◌, ◌∙◌, ◌⊎◌, inl, inr, Bool, true, false, not, List, [], ◌∷◌, ◌++◌, Option, Some, None, refl, sym, ap, subst, append_assoc, arith}
 use Rattle.std.specs.Prelude.{cond, count_by, ◌&&◌, fold}
-use Rattle.std.specs.List.{filter, filter_map, list_any, sum_by}
+use Rattle.std.specs.List.{filter_map, list_any}
 use Rattle.std.specs.Map.{keys_of}
 use Rattle.std.specs.Option.{is_some, option_map, option_or, option_to_list}
 use Rattle.std.specs.BTreeMap.{is_at}
 use Rattle.std.specs.Ordering.{nat_cmp}
-use Rattle.std.proofs.lemmas.Bool.{cases_eq, cases_lt, cond-true, cond-false, eq-eqb, eqb-true, ne_eqb, not-true, and_parts}
-use Rattle.std.proofs.lemmas.Bool.Decides.{nat_tests}
+use Rattle.std.proofs.lemmas.Bool.{cases_eq, cases_lt, cond-true, cond-false, eq-eqb, eqb-true, ne_eqb, and_parts}
 use Rattle.std.proofs.lemmas.List.{append-nil}
 use Rattle.std.proofs.lemmas.List.Sums.{sum_by-append, sum_by-cons, sum_by_push}
 use Rattle.std.proofs.lemmas.Map.Entries.{option_filter}
 use Rattle.std.proofs.lemmas.Map.Made.{is_some-lookup}
 use Rattle.dev_types.specs.Refusals.{status_of}
-use Rattle.dev_types.specs.declared.data_types.DataType.{DataType}
 use Rattle.dev_types.specs.declared.handles.Origin.{Origin}
 use Rattle.dev_types.specs.declared.handles.Origin.TheVariants.{Captured, Shared, Managed}
 use Rattle.dev_types.specs.declared.notices.Notice.{Notice}
-use Rattle.dev_types.specs.declared.notices.Notice.TheVariants.{Deleted, LetGo, Told}
-use Rattle.dev_types.specs.declared.refusals.Refused.{Refused}
+use Rattle.dev_types.specs.declared.notices.Notice.TheVariants.{Told}
 use Rattle.seq_model.proofs.Afters.{after_more, grows_by}
 use Rattle.seq_model.proofs.Came.{stop_objects, end_is, stays_gone}
 use Rattle.seq_model.proofs.Changes.{AreLike, Change, Quiet, Making, Rendering, Discarding, Finishing, Leaving, Closing, IsQuiet, captures, changed_here, entry_changes, is_captured, is_captured_array, others_unchanged}
 use Rattle.seq_model.proofs.Creations.{made_handle}
-use Rattle.seq_model.proofs.Handles.{IsRising, change_rises, changed_rises, changed, lives, rises, root_of, step_rises, step_state, sweep_rises, swept_next, swept_objects}
+use Rattle.seq_model.proofs.Handles.{IsRising, changed_rises, changed, lives, rises, root_of, step_rises, step_state, swept_next, swept_objects}
 use Rattle.seq_model.proofs.Keys.{RisesWithin, at, at_append, at_filter, at_map, at_within, key_here, key_is, key_is_other, nothing_outside, rises_filtered}
-use Rattle.seq_model.proofs.Prefixes.{in_place, prefix_is_legal}
+use Rattle.seq_model.proofs.Prefixes.{prefix_is_legal}
 use Rattle.seq_model.specs.Ends.{is_capturing, is_deleting}
 use Rattle.seq_model.specs.Histories.{History}
-use Rattle.seq_model.specs.Legal.{Legal, IsInPlace}
-use Rattle.seq_model.specs.Life.{grown, has, live}
+use Rattle.seq_model.specs.Legal.{Legal}
+use Rattle.seq_model.specs.Life.{has}
 use Rattle.seq_model.specs.State.{ArrayState, Object, Phase, Empty, Flight, Done, State, changed_at, object_at, with_object}
-use Rattle.seq_model.specs.Steps.{Past, after, change, discard, end_flight, end_flights, next_place, set_phase, start, step, stop, swept}
+use Rattle.seq_model.specs.Steps.{Past, after, change, discard, end_flight, end_flights, next_place, set_phase, start, step}
 use Rattle.seq_model.specs.Told.{end_of_array, end_of_object, gone, removed, source_of, status_at, told, told_by, told_from}
-use Rattle.seq_model.specs.declared.calls.Call.{Call}
 use Rattle.seq_model.specs.declared.calls.Call.TheVariants.{NewArray}
 use Rattle.seq_model.specs.declared.calls.Entry.{Entry}
 use Rattle.seq_model.specs.declared.calls.Entry.TheVariants.{Called, Finished, Left, Closed}
-use Rattle.seq_model.specs.declared.calls.Reply.{Reply}
 use Rattle.seq_model.specs.declared.calls.Reply.TheVariants as reply
 
 -- how many deleters of h run
@@ -68,6 +63,7 @@ ends_here h e same = by e.1.array refl
     of a (Captured user) is = rw is (cond-true (e.0 == h) 1 0 (eq-eqb e.0 h same))
     of a (Shared user) is = rw is refl
     of a Managed is = rw is refl
+
     by : (x : Option ArrayState) → e.1.array ≡ x → ended h (end_of_object e) ≡ cond (is_captured_array e.1.array) 1 0
     by None is = rw is refl
     by (Some a) is = rw is (of a a.origin refl)
@@ -80,6 +76,7 @@ ends_elsewhere h e apart = by e.1.array refl
     of a (Captured user) = cond-false (e.0 == h) 1 0 (ne_eqb e.0 h apart)
     of a (Shared user) = refl
     of a Managed = refl
+
     by : (x : Option ArrayState) → e.1.array ≡ x → ended h (end_of_object e) ≡ 0
     by None is = rw is refl
     by (Some a) is = rw is (of a a.origin)
@@ -208,11 +205,14 @@ made_weight e s u o h takes quiet rising = by (cases_eq h u.next)
   where
     both : object_at (with_object o u) h ≡ option_or (object_at u h) (at h ((u.next, o) ∷ []))
     both = at_append h u.objects ((u.next, o) ∷ [])
+
     same_weight : weight (object_at u h) ≡ weight (object_at s h)
     same_weight = like_weight (object_at s h) (object_at u h) (quiet.like h)
+
     beside : (x : Option Object) → option_or x None ≡ x
     beside None = refl
     beside (Some x) = refl
+
     by : (h ≡ u.next) ⊎ (h ≡ u.next → ⊥) → weight (object_at (with_object o u) h) ≡ weight (object_at s h) + newly s e h
     by (inl same) =
         let none : object_at u h ≡ None = nothing_outside h 1 u.next u.objects rising (λ _ high. omega (arith, high, same)) in
@@ -355,10 +355,13 @@ bounded_more h history e now = by (captures e && ((after history).state.next == 
   where
     grown_total : total (history ++ e ∷ []) h ≡ total history h + newly (after history).state e h
     grown_total = total_more history e h
+
     next_is : (after (history ++ e ∷ [])).state.next ≡ (step (after history) e).state.next
     next_is = ap (λ (past : Past). past.state.next) (after_more history e)
+
     next_up : (after history).state.next ≤ (step (after history) e).state.next
     next_up = (step_rises (after history) e (rises history)).1
+
     by : (t : Bool) → (captures e && ((after history).state.next == h)) ≡ t → IsBounded h (history ++ e ∷ [])
     by true is =
         let both : (captures e ≡ true) × (((after history).state.next == h) ≡ true) = and_parts (captures e) ((after history).state.next == h) is in
@@ -368,9 +371,10 @@ bounded_more h history e now = by (captures e && ((after history).state.next == 
         let up : (after history).state.next + 1 ≤ (step (after history) e).state.next = step_takes (after history) e both.0 in
         (omega (arith, grown_total, none, one), λ low. absurd (omega (arith, low, next_is, up, here)))
     by false is =
-        let none : newly (after history).state e h ≡ 0 = ap (λ t. cond {A = ℕ} t 1 0) is in
-        (omega (arith, grown_total, none, now.0),
-        λ low. let nothing : total history h ≡ 0 = now.1 (omega (arith, low, next_is, next_up)) in omega (arith, grown_total, none, nothing))
+        let none : newly (after history).state e h ≡ 0 = ap (λ t. cond {A = ℕ} t 1 0) is in (
+          omega (arith, grown_total, none, now.0),
+          λ low. let nothing : total history h ≡ 0 = now.1 (omega (arith, low, next_is, next_up)) in omega (arith, grown_total, none, nothing),
+        )
 
 bounded : (h : ℕ) (history : History) → IsBounded h history
 bounded h history = grows_by (IsBounded h) (omega (arith, total_first h), λ low. total_first h) (bounded_more h) history

@@ -1,22 +1,22 @@
 -- Each ticket stands once.
-use Rattle.std.proofs.Common.{ℕ, ◌+◌, ◌==◌, ◌≡◌, ◌<◌, ◌≤◌, ◌∙◌, ◌⊎◌, inl, inr, Bool, true, false, not, List, [], ◌∷◌, ◌++◌, IsTrue, Option, Some, None, refl, sym, ap, subst, length, arith}
-use Rattle.std.specs.Prelude.{cond, count_by}
-use Rattle.std.specs.List.{filter, filter_map, list_any}
+use Rattle.std.proofs.Common.{ℕ, ◌+◌, ◌==◌, ◌≡◌, ◌<◌, ◌≤◌, ◌∙◌, ◌⊎◌, inl, inr, Bool, true, false, not, List, [], ◌∷◌, ◌++◌, Option, Some, None, refl, sym, ap, subst, length, arith}
+use Rattle.std.specs.Prelude.{cond}
+use Rattle.std.specs.List.{filter, filter_map}
 use Rattle.std.specs.Map.{keys_of}
 use Rattle.std.specs.Option.{option_map_or, unwrap_or}
-use Rattle.std.proofs.lemmas.Bool.{cases_Bool, cond-false, cond-true, eq-eqb, eqb-true, ne_eqb, or_cases, or_parts}
+use Rattle.std.proofs.lemmas.Bool.{cond-false, cond-true, eqb-true, or_cases, or_parts}
 use Rattle.std.proofs.lemmas.List.Folds.{list_any-append}
 use Rattle.std.proofs.lemmas.List.Sums.{sum_by-append, sum_by-cons}
 use Rattle.seq_model.proofs.Afters.{after_more, frame_within, grows_by}
 use Rattle.seq_model.proofs.Changes.{Change, Quiet, Making, Rendering, Discarding, Finishing, Leaving, Closing, entry_changes}
 use Rattle.seq_model.proofs.Flights.{IsUnseen, own_tickets, stopped_is_unseen, ticket_in_flight}
-use Rattle.seq_model.proofs.Handles.{IsRising, changed, rises, step_state, swept_next}
-use Rattle.seq_model.proofs.Keys.{RisesWithin, at, at_tail, at_within, key_here, one_that_passes}
+use Rattle.seq_model.proofs.Handles.{changed, rises, step_state, swept_next}
+use Rattle.seq_model.proofs.Keys.{RisesWithin, at, at_tail, at_within, key_here}
 use Rattle.seq_model.proofs.Sweeps.{place_after}
 use Rattle.seq_model.specs.Histories.{History, frame_at}
 use Rattle.seq_model.specs.Life.{has, times}
 use Rattle.seq_model.specs.State.{Object, Phase, Empty, Flight, Done, State, changed_at, flights, object_at, ticket_in}
-use Rattle.seq_model.specs.Steps.{Past, after, discard, end_flights, next_place, set_phase, step, stop, swept}
+use Rattle.seq_model.specs.Steps.{Past, after, discard, end_flights, next_place, set_phase, step, stop}
 use Rattle.seq_model.specs.Tickets.{ticket_of}
 use Rattle.seq_model.specs.declared.calls.Entry.{Entry}
 
@@ -35,6 +35,7 @@ times_of_filter u p (v ∷ us) = by (p v) (times_of_filter u p us)
   where
     all : times u (v ∷ us) ≡ cond {A = ℕ} (v == u) 1 0 + times u us
     all = sum_by-cons (λ k. cond (k == u) 1 0) v us
+
     by : (t : Bool) → times u (filter p us) ≤ times u us → times u (cond t (v ∷ filter p us) (filter p us)) ≤ times u (v ∷ us)
     by true rest = omega (arith, all, rest, sum_by-cons (λ k. cond (k == u) 1 0) v (filter p us))
     by false rest = omega (arith, all, rest)
@@ -44,8 +45,10 @@ times_with_last u v us once none = by (v == u) refl
   where
     all : times u (us ++ v ∷ []) ≡ times u us + times u (v ∷ [])
     all = sum_by-append (λ k. cond (k == u) 1 0) us (v ∷ [])
+
     last : times u (v ∷ []) ≡ cond {A = ℕ} (v == u) 1 0 + 0
     last = sum_by-cons (λ k. cond (k == u) 1 0) v []
+
     by : (t : Bool) → (v == u) ≡ t → times u (us ++ v ∷ []) ≤ 1
     by true is =
         let nothing : times u us ≡ 0 = no_times u us (none (eqb-true v u is)) in
@@ -61,6 +64,7 @@ frame_of u low high (e ∷ es) rising flies = by (ticket_in e.1.phase) refl (λ 
   where
     later : (k : ℕ) × (o : Object) × (at k es ≡ Some o) × (ticket_in o.phase ≡ Some u) → (k : ℕ) × (o : Object) × (at k (e ∷ es) ≡ Some o) × (ticket_in o.phase ≡ Some u)
     later one = (one.0, one.1, at_tail one.0 high e es one.1 rising.1 one.2, one.3)
+
     by : (x : Option ℕ) → ticket_in e.1.phase ≡ x →
         (has u (filter_map (λ entry. ticket_in entry.1.phase) es) ≡ true → (k : ℕ) × (o : Object) × (at k es ≡ Some o) × (ticket_in o.phase ≡ Some u)) →
         (k : ℕ) × (o : Object) × (at k (e ∷ es) ≡ Some o) × (ticket_in o.phase ≡ Some u)
@@ -93,12 +97,14 @@ frames_once u f low high (e ∷ es) rising own =
             let there : one.0 ≡ f = own one.0 one.1 (at_tail one.0 high e es one.1 rising.1 one.2) one.3 in
             let within : (e.0 + 1 ≤ one.0) × (one.0 < high) = at_within one.0 (e.0 + 1) high es one.1 rising.1 one.2 in
             absurd (omega (arith, here, there, within.0))
+
     by : (x : Option ℕ) → ticket_in e.1.phase ≡ x → times u (filter_map (λ entry. ticket_in entry.1.phase) es) ≤ 1 → times u (filter_map (λ entry. ticket_in entry.1.phase) (e ∷ es)) ≤ 1
     by None is rest = rw is rest
     by (Some v) is rest = rw is (of (v == u) refl)
       where
         all : times u (v ∷ filter_map (λ entry. ticket_in entry.1.phase) es) ≡ cond {A = ℕ} (v == u) 1 0 + times u (filter_map (λ entry. ticket_in entry.1.phase) es)
         all = sum_by-cons (λ k. cond (k == u) 1 0) v (filter_map (λ entry. ticket_in entry.1.phase) es)
+
         of : (t : Bool) → (v == u) ≡ t → times u (v ∷ filter_map (λ entry. ticket_in entry.1.phase) es) ≤ 1
         of true test =
             let one : cond {A = ℕ} (v == u) 1 0 ≡ 1 = cond-true (v == u) 1 0 test in
@@ -165,17 +171,22 @@ tickets_stand_once history t = by (has t (after history).state.stopped) refl
   where
     frames : List ℕ
     frames = filter_map (λ entry. ticket_in entry.1.phase) (after history).state.objects
+
     all : times t (flights (after history).state) ≡ times t frames + times t (after history).state.stopped
     all = sum_by-append (λ k. cond (k == t) 1 0) frames (after history).state.stopped
+
     own : (k : ℕ) (o : Object) → at k (after history).state.objects ≡ Some o → ticket_in o.phase ≡ Some t → k ≡ unwrap_or (frame_at history t) 0
     own k o found flies = ap (λ x. unwrap_or x 0) (sym (own_tickets history k t o found (ticket_in_flight o.phase t flies)))
+
     once : times t frames ≤ 1
     once = frames_once t (unwrap_or (frame_at history t) 0) 1 (after history).state.next (after history).state.objects (rises history) own
+
     none_flies : IsUnseen t (after history) → (b : Bool) → has t frames ≡ b → b ≡ false
     none_flies unseen false is = refl
     none_flies unseen true is =
         let one : (k : ℕ) × (o : Object) × (at k (after history).state.objects ≡ Some o) × (ticket_in o.phase ≡ Some t) = frame_of t 1 (after history).state.next (after history).state.objects (rises history) is in
         absurd (unseen.unseen one.0 one.1 one.2 (ticket_in_flight one.1.phase t one.3))
+
     by : (b : Bool) → has t (after history).state.stopped ≡ b → times t (flights (after history).state) ≤ 1
     by false is = let none : times t (after history).state.stopped ≡ 0 = no_times t (after history).state.stopped is in omega (arith, all, none, once)
     by true is =
@@ -188,6 +199,7 @@ tickets_are_places history t is =
   where
     frames : List ℕ
     frames = filter_map (λ entry. ticket_in entry.1.phase) (after history).state.objects
+
     by : (has t frames ≡ true) ⊎ (has t (after history).state.stopped ≡ true) → t < next_place (after history)
     by (inl flies) =
         let one : (k : ℕ) × (o : Object) × (at k (after history).state.objects ≡ Some o) × (ticket_in o.phase ≡ Some t) = frame_of t 1 (after history).state.next (after history).state.objects (rises history) flies in

@@ -3,7 +3,7 @@ use Rattle.std.specs.Prelude.{◌≡◌, ◌⊎◌, ℕ, ◌++◌, ◌∷◌, []
 use Rattle.seq_model.specs.Histories.{History, public}
 use Rattle.seq_model.specs.Life.{has, is_root, names_of}
 use Rattle.seq_model.specs.State.{Object, State, object_at}
-use Rattle.seq_model.specs.Steps.{Past, after, change, is_reached, next_place, step}
+use Rattle.seq_model.specs.Steps.{after, change, is_reached, next_place}
 use Rattle.seq_model.specs.declared.calls.Entry.{Entry}
 
 -- the state that an entry makes of the one after a history, before what does not live is gone
@@ -18,4 +18,4 @@ lives_itself history e = is_root (public (history ++ e ∷ [])) (is_reached (aft
 abbrev pub HoldsItself : History → Entry → List ℕ → Type 0
 HoldsItself history e members =
     (h : ℕ) → IsTrue (has h members) → (o : Object) × (object_at (changed_by history e) h ≡ Some o) ×
-        (IsTrue (lives_itself history e (h, o)) ⊎ ((k : ℕ) × (p : Object) × IsTrue (has k members) × (object_at (changed_by history e) k ≡ Some p) × IsTrue (has h (names_of p))))
+    (IsTrue (lives_itself history e (h, o)) ⊎ ((k : ℕ) × (p : Object) × IsTrue (has k members) × (object_at (changed_by history e) k ≡ Some p) × IsTrue (has h (names_of p))))

@@ -1,12 +1,12 @@
 -- Which entry lent what an application holds of an object.
-use Rattle.std.specs.Prelude.{ℕ, ◌==◌, ◌&&◌, Bool, true, false, List, All, Option, Some, None, IsTrue}
+use Rattle.std.specs.Prelude.{ℕ, ◌==◌, ◌&&◌, Bool, false, All, IsTrue}
 use Rattle.std.specs.Option.{IsSomeAnd, MatchOption}
 use Rattle.std.specs.Str.{bytes_eq}
 use Rattle.dev_types.specs.declared.handles.Channel.{Channel}
 use Rattle.kind_tables.specs.Kinds.{is_same_type}
 use Rattle.seq_model.specs.Histories.{History, entry_at}
 use Rattle.seq_model.specs.Refusals.{is_same_channel}
-use Rattle.seq_model.specs.State.{Object, ParameterLoan, State, array_loan, object_at}
+use Rattle.seq_model.specs.State.{Object, ParameterLoan, array_loan}
 use Rattle.seq_model.specs.declared.calls.Call.TheVariants.{MapArray, MapFrame, MapParameterArray}
 use Rattle.seq_model.specs.declared.calls.Entry.{Entry}
 use Rattle.seq_model.specs.declared.calls.Entry.TheVariants.{Called}
