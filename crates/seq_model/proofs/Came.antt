@@ -1,22 +1,19 @@
 -- Where an object of a state comes from: it was just made, or it was there before, in what one entry makes of it.
-use Rattle.std.proofs.Common.{ℕ, ◌+◌, ◌==◌, ◌≡◌, ◌<◌, ◌≤◌, ◌∙◌, ◌⊎◌, inl, inr, Bool, true, false, not, List, [], ◌∷◌, ◌++◌, Option, Some, None, map, refl, sym, ap, subst, arith}
-use Rattle.std.specs.Prelude.{cond, ◌||◌}
+use Rattle.std.proofs.Common.{ℕ, ◌==◌, ◌≡◌, ◌<◌, ◌≤◌, ◌∙◌, ◌⊎◌, inl, inr, Bool, true, false, [], ◌∷◌, ◌++◌, Option, Some, None, refl, sym, ap, subst, arith}
 use Rattle.std.specs.BTreeMap.{is_at}
-use Rattle.std.specs.List.{filter}
 use Rattle.std.specs.Ordering.{nat_cmp}
 use Rattle.std.specs.Option.{option_map, option_or}
-use Rattle.std.proofs.lemmas.Bool.{cases_eq, eqb-true, or_cases}
+use Rattle.std.proofs.lemmas.Bool.{cases_eq, eqb-true}
 use Rattle.std.proofs.lemmas.Map.Entries.{option_filter}
 use Rattle.seq_model.proofs.Afters.{after_both, keeps_by}
-use Rattle.seq_model.proofs.Changes.{AreLike, Change, Quiet, Making, Rendering, Discarding, Finishing, Leaving, Closing, IsLike, IsQuiet, changed_here, entry_changes, is_captured, others_unchanged}
-use Rattle.seq_model.proofs.Handles.{IsRising, change_rises, changed, lives, rises, root_of, step_rises, step_state, swept_objects}
-use Rattle.seq_model.proofs.Keys.{at, at_append, at_filter, at_map, key_here, key_is}
+use Rattle.seq_model.proofs.Changes.{AreLike, Change, Quiet, Making, Rendering, Discarding, Finishing, Leaving, Closing, IsQuiet, changed_here, entry_changes, is_captured, others_unchanged}
+use Rattle.seq_model.proofs.Handles.{IsRising, changed_rises, changed, lives, rises, root_of, step_rises, step_state, swept_objects}
+use Rattle.seq_model.proofs.Keys.{at, at_append, at_filter, at_map, key_is}
 use Rattle.seq_model.specs.Histories.{History, rendered}
-use Rattle.seq_model.specs.Life.{has}
 use Rattle.seq_model.specs.State.{Object, Phase, Empty, Flight, Done, State, changed_at, object_at, with_object}
 use Rattle.seq_model.specs.Steps.{Past, after, discard, end_flight, end_flights, next_place, set_phase, step, stop, swept}
 use Rattle.seq_model.specs.declared.calls.Entry.{Entry}
-use Rattle.seq_model.specs.declared.calls.Entry.TheVariants.{Called, Finished, Left, Closed}
+use Rattle.seq_model.specs.declared.calls.Entry.TheVariants.{Finished}
 
 -- what one entry makes of the phase of object k
 pub data PhaseStep (place : ℕ) (e : Entry) (k : ℕ) (old new : Phase) : Type 0 where
@@ -50,6 +47,7 @@ added o u k p found = by (object_at u k) refl
         of : (t : Bool) → is_at (nat_cmp k) u.next ≡ t → (k ≡ u.next) × (p ≡ o)
         of true test = let value : Some o ≡ Some p = rw test at is in (key_is k u.next test, cc)
         of false test = let none : None ≡ Some p = rw test at is in absurd cc
+
     by : (x : Option Object) → object_at u k ≡ x → (object_at u k ≡ Some p) ⊎ ((k ≡ u.next) × (p ≡ o))
     by (Some q) is =
         let both : option_or (object_at u k) (at k ((u.next, o) ∷ [])) ≡ Some p = sym (at_append k u.objects ((u.next, o) ∷ [])) ∙ found in
@@ -73,12 +71,13 @@ set_back place e s h k phase o sets found = by (cases_eq k h)
     here : (x : Option Object) → object_at s h ≡ x → option_map (set_phase phase) x ≡ Some o → ComesFrom place e s h o
     here None was is = absurd cc
     here (Some p) was is = let same : set_phase phase p ≡ o = cc in subst (ComesFrom place e s h) same (Was p was refl refl (sets p.phase))
+
     by : (k ≡ h) ⊎ (k ≡ h → ⊥) → ComesFrom place e s k o
     by (inl same) =
         subst (λ k. ComesFrom place e s k o) (sym same) (here (object_at s h) refl (sym (changed_here h (set_phase phase) s) ∙ subst (λ k. object_at (changed_at h (set_phase phase) s) k ≡ Some o) same found))
     by (inr apart) = Was o (sym (others_unchanged h k (set_phase phase) s apart) ∙ found) refl refl (Kept refl)
 
-stop_objects : (phase : Phase) (s : State) → (stop phase s).objects ≡ s.objects
+pub stop_objects : (phase : Phase) (s : State) → (stop phase s).objects ≡ s.objects
 stop_objects (Flight t) s = refl
 stop_objects Empty s = refl
 stop_objects (Done t) s = refl
@@ -112,6 +111,7 @@ ended_back place e s u k phase o ends found =
     of : (p : Object) → object_at s k ≡ Some p → (end_flight u phase p ≡ p) ⊎ ((p.phase ≡ Flight u) × (end_flight u phase p ≡ set_phase phase p)) → ComesFrom place e s k (end_flight u phase p)
     of p was (inl same) = subst (ComesFrom place e s k) (sym same) (Was p was refl refl (Kept refl))
     of p was (inr ended) = subst (ComesFrom place e s k) (sym ended.1) (Was p was refl refl (ends p.phase ended.0))
+
     from : (x : Option Object) → object_at s k ≡ x → option_map (end_flight u phase) x ≡ Some o → ComesFrom place e s k o
     from None was is = absurd cc
     from (Some p) was is = let same : end_flight u phase p ≡ o = cc in subst (ComesFrom place e s k) same (of p was (end_is u phase p))
@@ -145,7 +145,7 @@ pub step_back : (past : Past) (e : Entry) (k : ℕ) (o : Object) → IsRising pa
 step_back past e k o rising found =
     let changes : Change (next_place past) e past.state (changed past e) = entry_changes (next_place past) e past.state in
     change_back (next_place past) e past.state (changed past e) changes k o
-    (swept_was (step past e) (changed past e) k o (change_rises (next_place past) e past.state (changed past e) changes rising).0 (ap (λ s. object_at s k) (sym (step_state past e)) ∙ found)).0
+    (swept_was (step past e) (changed past e) k o (changed_rises past e rising).0 (ap (λ s. object_at s k) (sym (step_state past e)) ∙ found)).0
 
 -- a handle that was used, with nothing at it, stays so
 pub stays_gone : (past : Past) (e : Entry) (h : ℕ) → IsRising past.state → h < past.state.next → object_at past.state h ≡ None → object_at (step past e).state h ≡ None
@@ -154,6 +154,7 @@ stays_gone past e h rising used gone = by (object_at (step past e).state h) refl
     from : (o : Object) → ComesFrom (next_place past) e past.state h o → ⊥
     from o (IsNew new phase) = omega (arith, used, new)
     from o (Was p was kind takes phase) = cc
+
     by : (x : Option Object) → object_at (step past e).state h ≡ x → x ≡ None
     by None is = refl
     by (Some o) is = absurd (from o (step_back past e h o rising is))
@@ -164,6 +165,6 @@ gone_for_good history further h used gone =
     subst (λ (past : Past). object_at past.state h ≡ None) (sym (after_both history further))
     (keeps_by (λ past. IsRising past.state × (h < past.state.next) × (object_at past.state h ≡ None))
     (λ past e now.
-      let one : IsRising (step past e).state × (past.state.next ≤ (step past e).state.next) = step_rises past e now.0 in
-      (one.0, omega (arith, now.1, one.1), stays_gone past e h now.0 now.1 now.2))
+    let one : IsRising (step past e).state × (past.state.next ≤ (step past e).state.next) = step_rises past e now.0 in
+    (one.0, omega (arith, now.1, one.1), stays_gone past e h now.0 now.1 now.2))
     (after history) further (rises history, used, gone)).2

@@ -1,9 +1,8 @@
 -- A creation makes the next handle, so no handle is made twice.
-use Rattle.std.proofs.Common.{ℕ, ◌+◌, ◌≡◌, ◌<◌, ◌≤◌, ◌∙◌, Bool, true, false, not, List, [], ◌∷◌, ◌++◌, Option, Some, None, length, refl, sym, ap, subst, arith}
+use Rattle.std.proofs.Common.{ℕ, ◌+◌, ◌≡◌, ◌<◌, ◌≤◌, ◌∙◌, true, false, List, [], ◌∷◌, ◌++◌, Option, Some, None, length, refl, sym, ap, arith}
 use Rattle.std.specs.List.{list_any}
 use Rattle.std.specs.Option.{is_none, option_and_then, option_map, option_map_or, unwrap_or}
 use Rattle.std.proofs.lemmas.Bool.{not-false}
-use Rattle.dev_types.specs.declared.refusals.Refused.{Refused}
 use Rattle.dev_types.specs.declared.refusals.Refused.TheVariants.{BadSubtype, NotMapped}
 use Rattle.kind_tables.specs.Kinds.{kind_of}
 use Rattle.kind_tables.specs.declared.kinds.Kind.{Kind}
@@ -17,10 +16,8 @@ use Rattle.seq_model.specs.Refusals.{is_parameter_out, is_parameter_loan_out, re
 use Rattle.seq_model.specs.State.{Object, ParameterLoan, State, object_at, parameter_loan, with_object}
 use Rattle.seq_model.specs.Steps.{Past, after, change, effect, fresh, next_place, step, take_in, unmap_parameter}
 use Rattle.seq_model.specs.declared.calls.Call.{Call}
-use Rattle.seq_model.specs.declared.calls.Call.TheVariants.{NewObject, NewArray, Retain, Release, SetParameter, UnsetParameter, UnsetAll, Commit, MapArray, UnmapArray, MapParameterArray, UnmapParameterArray, RenderFrame, FrameReady, DiscardFrame, MapFrame, UnmapFrame, GetProperty, Subtypes, ObjectInfo, ParameterInfo}
-use Rattle.seq_model.specs.declared.calls.Entry.{Entry}
+use Rattle.seq_model.specs.declared.calls.Call.TheVariants.{NewObject, NewArray, Retain, UnmapParameterArray}
 use Rattle.seq_model.specs.declared.calls.Entry.TheVariants.{Called}
-use Rattle.seq_model.specs.declared.calls.Reply.{Reply}
 use Rattle.seq_model.specs.declared.calls.Reply.TheVariants as reply
 
 -- an object of this type and subtype can be made
@@ -70,12 +67,13 @@ made_handle history actor h call legal =
     let reply_is : (refusal (after history) call ≡ None) × IsGiven (after history) call (reply.Made h) =
     given (after history) call (reply.Made h) (in_place history (Called actor call (reply.Made h)) [] legal).0 (λ refused is. cc) in
     let next : h ≡ (after history).state.next = made_is_next (after history) call h reply_is.1 in
-    let one : (changed (after history) (Called actor call (reply.Made h))).next ≡ (after history).state.next + 1 = counts_one (next_place (after history)) h (after history) call reply_is.0 reply_is.1 in
-    (next,
-    ap (λ (past : Past). past.state.next) (after_more history (Called actor call (reply.Made h)))
-    ∙ ap (λ (s : State). s.next) (step_state (after history) (Called actor call (reply.Made h)))
-    ∙ (swept_next (step (after history) (Called actor call (reply.Made h))) (changed (after history) (Called actor call (reply.Made h)))).0
-    ∙ one ∙ ap (λ n. n + 1) (sym next))
+    let one : (changed (after history) (Called actor call (reply.Made h))).next ≡ (after history).state.next + 1 = counts_one (next_place (after history)) h (after history) call reply_is.0 reply_is.1 in (
+      next,
+      ap (λ (past : Past). past.state.next) (after_more history (Called actor call (reply.Made h)))
+          ∙ ap (λ (s : State). s.next) (step_state (after history) (Called actor call (reply.Made h)))
+          ∙ (swept_next (step (after history) (Called actor call (reply.Made h))) (changed (after history) (Called actor call (reply.Made h)))).0
+          ∙ one ∙ ap (λ n. n + 1) (sym next),
+    )
 
 pub made_handles_rise : (first second : History) (actor other h k : ℕ) (call further : Call) →
     Legal (((first ++ Called actor call (reply.Made h) ∷ []) ++ second) ++ Called other further (reply.Made k) ∷ []) → h < k

@@ -1,30 +1,27 @@
 -- Tickets: each belongs to one frame, and one that was stopped or discarded shows nowhere any more.
-use Rattle.std.proofs.Common.{ℕ, ◌+◌, ◌==◌, ◌≡◌, ◌<◌, ◌≤◌, ◌∙◌, ◌⊎◌, inl, inr, Bool, true, false, not, List, [], ◌∷◌, ◌++◌, Option, Some, None, IsTrue, refl, sym, ap, subst, length, arith, length-append}
-use Rattle.std.specs.Prelude.{cond, ◌||◌, fold}
-use Rattle.std.specs.List.{filter, filter_map, list_any}
-use Rattle.std.specs.Map.{keys_of}
+use Rattle.std.proofs.Common.{ℕ, ◌+◌, ◌==◌, ◌≡◌, ◌<◌, ◌≤◌, ◌∙◌, ◌⊎◌, inl, inr, Bool, true, false, not, List, [], ◌∷◌, ◌++◌, Option, Some, None, refl, sym, ap, subst, length, arith, length-append}
+use Rattle.std.specs.Prelude.{cond, ◌||◌}
+use Rattle.std.specs.List.{filter}
 use Rattle.std.specs.Option.{option_map, option_map_or}
-use Rattle.std.specs.BTreeMap.{is_at}
-use Rattle.std.specs.Ordering.{nat_cmp}
 use Rattle.std.proofs.lemmas.Bool.{eqb-true, or_cases}
 use Rattle.std.proofs.lemmas.List.Folds.{list_any-append}
-use Rattle.seq_model.proofs.Afters.{after_both, after_more, frame_early, frame_last, frame_within, grows_by, keeps_by, seen_from, seen_is_history}
-use Rattle.seq_model.proofs.Came.{swept_was, ComesFrom, IsNew, Was, PhaseStep, Kept, Emptied, Started, Ended, step_back}
-use Rattle.seq_model.proofs.Changes.{Change, Quiet, Making, Rendering, Discarding, Finishing, Leaving, Closing, IsQuiet, changed_here, entry_changes}
-use Rattle.seq_model.proofs.Handles.{IsRising, change_rises, changed, rises, step_rises, step_state, swept_next}
+use Rattle.seq_model.proofs.Afters.{after_both, after_more, frame_early, frame_last, frame_within, grows_by, keeps_by}
+use Rattle.seq_model.proofs.Came.{stop_objects, swept_was, ComesFrom, IsNew, Was, Kept, Emptied, Started, Ended, step_back}
+use Rattle.seq_model.proofs.Changes.{Change, Quiet, Making, Rendering, Discarding, Finishing, Leaving, Closing, changed_here, entry_changes}
+use Rattle.seq_model.proofs.Handles.{IsRising, changed_rises, changed, rises, step_rises, step_state, swept_next}
 use Rattle.seq_model.proofs.Keys.{at, one_that_passes}
 use Rattle.seq_model.proofs.Prefixes.{in_place}
 use Rattle.seq_model.proofs.Sweeps.{place_after}
 use Rattle.seq_model.specs.Histories.{History, frame_at, rendered}
 use Rattle.seq_model.specs.Legal.{Legal, is_flying}
 use Rattle.seq_model.specs.Life.{has}
-use Rattle.seq_model.specs.State.{Object, Phase, Empty, Flight, Done, State, changed_at, is_in_flight, object_at, ticket_in, with_object}
-use Rattle.seq_model.specs.Steps.{Past, after, change, discard, effect, end_flights, next_place, set_phase, step, stop, swept}
+use Rattle.seq_model.specs.State.{Object, Phase, Empty, Flight, Done, State, changed_at, is_in_flight, object_at, ticket_in}
+use Rattle.seq_model.specs.Steps.{Past, after, change, discard, effect, end_flights, next_place, set_phase, step, stop}
 use Rattle.seq_model.specs.Tickets.{ticket_of}
 use Rattle.seq_model.specs.declared.calls.Call.TheVariants.{DiscardFrame}
 use Rattle.seq_model.specs.declared.calls.Reply.TheVariants as reply
 use Rattle.seq_model.specs.declared.calls.Entry.{Entry}
-use Rattle.seq_model.specs.declared.calls.Entry.TheVariants.{Called, Finished, Left, Closed}
+use Rattle.seq_model.specs.declared.calls.Entry.TheVariants.{Called, Finished}
 
 -- what an object shows after an entry it showed before, unless it was rendered just now
 pub showed : (place : ℕ) (e : Entry) (s : State) (k u : ℕ) (o : Object) → ComesFrom place e s k o → ticket_of o.phase ≡ Some u →
@@ -125,11 +122,6 @@ stopped_by (Flight t) s u is = by (has_last u t s.stopped is)
 abbrev IsDiscarded : State → State → ℕ → Type 0
 IsDiscarded s t u = (h : ℕ) × (p : Object) × (object_at s h ≡ Some p) × (p.phase ≡ Flight u) × ((o : Object) → object_at t h ≡ Some o → o.phase ≡ Empty)
 
-stop_objects : (phase : Phase) (s : State) → (stop phase s).objects ≡ s.objects
-stop_objects (Flight t) s = refl
-stop_objects Empty s = refl
-stop_objects (Done t) s = refl
-
 discarded_stops : (h u : ℕ) (s : State) → has u (discard h s).stopped ≡ true → (has u s.stopped ≡ true) ⊎ IsDiscarded s (discard h s) u
 unfolding discard
 discarded_stops h u s is = by (object_at s h) refl (stopped_by _ (changed_at h (set_phase Empty) s) u is)
@@ -140,6 +132,7 @@ discarded_stops h u s is = by (object_at s h) refl (stopped_by _ (changed_at h (
         of : (x : Option Object) → option_map (set_phase Empty) x ≡ Some o → o.phase ≡ Empty
         of None is = absurd cc
         of (Some p) is = let same : set_phase Empty p ≡ o = cc in ap (λ (x : Object). x.phase) (sym same)
+
     by : (x : Option Object) → object_at s h ≡ x → (has u s.stopped ≡ true) ⊎ (option_map_or (λ o. o.phase) (object_at s h) Empty ≡ Flight u) →
         (has u s.stopped ≡ true) ⊎ IsDiscarded s (stop (option_map_or (λ o. o.phase) (object_at s h) Empty) (changed_at h (set_phase Empty) s)) u
     by x was (inl old) = inl old
@@ -165,7 +158,7 @@ stops place e s t (Closing entry is) u stopped = inl (ap (λ (t : State). has u 
 -- an object that is left by the sweep stood there after the change
 still_there : (past : Past) (e : Entry) (k : ℕ) (o : Object) → IsRising past.state → object_at (step past e).state k ≡ Some o → object_at (changed past e) k ≡ Some o
 still_there past e k o rising found =
-    (swept_was (step past e) (changed past e) k o (change_rises (next_place past) e past.state (changed past e) (entry_changes (next_place past) e past.state) rising).0
+    (swept_was (step past e) (changed past e) k o (changed_rises past e rising).0
     (ap (λ s. object_at s k) (sym (step_state past e)) ∙ found)).0
 
 discards : (actor h : ℕ) (past : Past) → changed past (Called actor (DiscardFrame h) reply.Done) ≡ discard h past.state
@@ -182,7 +175,7 @@ discard_empties h s o found =
     of (Some p) is = let same : set_phase Empty p ≡ o = cc in ap (λ (x : Object). x.phase) (sym same)
 
 -- a ticket among those of the frames in flight
-ticket_in_flight : (phase : Phase) (u : ℕ) → ticket_in phase ≡ Some u → ticket_of phase ≡ Some u
+pub ticket_in_flight : (phase : Phase) (u : ℕ) → ticket_in phase ≡ Some u → ticket_of phase ≡ Some u
 ticket_in_flight Empty u is = absurd cc
 ticket_in_flight (Flight t) u is = is
 ticket_in_flight (Done t) u is = absurd cc
@@ -219,12 +212,15 @@ stopped_is_unseen history = grows_by (λ history. (u : ℕ) → has u (after his
           where
             ticket : ticket_of p.phase ≡ Some u
             ticket = ap ticket_of flew
+
             inside : (0 < u) × (u ≤ length history)
             inside = frame_within history u h (own_tickets history h u p was ticket)
+
             here : (k : ℕ) (o : Object) → object_at (step (after history) e).state k ≡ Some o → ticket_of o.phase ≡ Some u → k ≡ h → ⊥
             here k o found shows same =
                 let there : object_at (changed (after history) e) h ≡ Some o = ap (object_at (changed (after history) e)) (sym same) ∙ still_there (after history) e k o (rises history) found in
                 let none : None ≡ Some u = sym (ap ticket_of (empties o there)) ∙ shows in absurd cc
+
             unseen : (k : ℕ) (o : Object) → object_at (step (after history) e).state k ≡ Some o → ticket_of o.phase ≡ Some u → ⊥
             unseen k o found shows = of (showed (next_place (after history)) e (after history).state k u o (step_back (after history) e k o (rises history) found) shows)
               where
@@ -252,6 +248,7 @@ discarded_is_unseen history actor h u o was ticket =
   where
     inside : (0 < u) × (u ≤ length history)
     inside = frame_within history u h (own_tickets history h u o was ticket)
+
     unseen : (k : ℕ) (p : Object) → object_at (step (after history) (Called actor (DiscardFrame h) reply.Done)).state k ≡ Some p → ticket_of p.phase ≡ Some u → ⊥
     unseen k p found shows =
         of (showed (next_place (after history)) (Called actor (DiscardFrame h) reply.Done) (after history).state k u p (step_back (after history) (Called actor (DiscardFrame h) reply.Done) k p (rises history) found) shows)

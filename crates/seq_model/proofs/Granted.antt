@@ -1,20 +1,20 @@
 -- What a reply tells of its call.
-use Rattle.std.proofs.Common.{ℕ, ◌+◌, ◌≡◌, ◌<◌, ◌≤◌, ◌∙◌, ◌⊎◌, inl, inr, ◌==◌, Bool, true, false, List, [], ◌∷◌, ◌++◌, Option, Some, None, refl, sym, ap, subst, arith}
+use Rattle.std.proofs.Common.{ℕ, ◌≡◌, ◌∙◌, ◌⊎◌, inl, inr, ◌==◌, Bool, true, false, List, [], ◌∷◌, Option, Some, None, refl, sym, ap}
 use Rattle.dev_types.specs.DataTypes.{byte_size}
 use Rattle.std.specs.Str.{bytes_eq}
-use Rattle.std.specs.Prelude.{◌&&◌, ◌*◌, cond, ◌||◌}
+use Rattle.std.specs.Prelude.{◌&&◌, ◌*◌, cond}
 use Rattle.std.specs.Bool.{then_some}
 use Rattle.std.specs.List.{find, list_any}
-use Rattle.std.specs.Option.{MatchOption, is_none, option_and_then, option_map, option_or}
-use Rattle.std.proofs.lemmas.Bool.{and_parts, cases_Bool, not_from_true, not-false, or_cases}
+use Rattle.std.specs.Option.{MatchOption, option_and_then, option_map, option_or}
+use Rattle.std.proofs.lemmas.Bool.{and_parts, or_cases}
 use Rattle.dev_types.specs.declared.refusals.Refused.{Refused}
 use Rattle.dev_types.specs.declared.refusals.Refused.TheVariants.{InFlight}
 use Rattle.seq_model.specs.Answers.{IsAnswer, IsLike, answer, granted, info_of, mapped_picture, property_of, readiness}
 use Rattle.seq_model.specs.Refusals.{first_of, is_parameter_out, phase_at, refusal}
-use Rattle.seq_model.specs.State.{Object, ParameterLoan, Phase, Empty, Flight, Done, State, object_at, parameter_loan}
-use Rattle.seq_model.specs.Steps.{Past, next_place}
+use Rattle.seq_model.specs.State.{ParameterLoan, Phase, Empty, Flight, Done, parameter_loan}
+use Rattle.seq_model.specs.Steps.{Past}
 use Rattle.seq_model.specs.declared.calls.Call.{Call}
-use Rattle.seq_model.specs.declared.calls.Call.TheVariants.{NewObject, NewArray, Retain, Release, SetParameter, UnsetParameter, UnsetAll, Commit, MapArray, UnmapArray, MapParameterArray, UnmapParameterArray, RenderFrame, FrameReady, DiscardFrame, MapFrame, UnmapFrame, GetProperty, Subtypes, ObjectInfo, ParameterInfo}
+use Rattle.seq_model.specs.declared.calls.Call.TheVariants.{NewObject, NewArray, Retain, UnmapParameterArray, FrameReady, MapFrame, GetProperty, ObjectInfo, ParameterInfo}
 use Rattle.seq_model.specs.declared.calls.Reply.{Reply}
 use Rattle.seq_model.specs.declared.calls.Reply.TheVariants as reply
 use Rattle.kind_tables.specs.Kinds.{kind_of}
@@ -47,6 +47,15 @@ given past call r answer other = by (refusal past call) refl answer
 pub first_is_none : (x : Option Refused) (xs : List (Option Refused)) → first_of (x ∷ xs) ≡ None → (x ≡ None) × (first_of xs ≡ None)
 first_is_none None xs none = (refl, none)
 first_is_none (Some refused) xs none = absurd cc
+
+-- each of them does not apply
+abbrev pub AllNone : List (Option Refused) → Type 0
+AllNone [] = Unit {0}
+AllNone (x ∷ xs) = (x ≡ None) × AllNone xs
+
+pub all_none : (xs : List (Option Refused)) → first_of xs ≡ None → AllNone xs
+all_none [] none = tt
+all_none (x ∷ xs) none = let both : (x ≡ None) × (first_of xs ≡ None) = first_is_none x xs none in (both.0, all_none xs both.1)
 
 pub does_not_apply : (applies : Bool) (refused : Refused) → then_some applies refused ≡ None → applies ≡ false
 does_not_apply true refused none = absurd cc
@@ -121,7 +130,7 @@ made_is_next past (Retain k) h given = absurd (other_reply past (Retain k) h ref
 made_is_next past call h given = absurd (other_reply past call h refl given)
 
 -- a loan that is out stands among the loans
-find_passes : (p q : ParameterLoan → Bool) (loans : List ParameterLoan) → ((loan : ParameterLoan) → p loan ≡ true → q loan ≡ true) → list_any p loans ≡ true →
+pub find_passes : (p q : ParameterLoan → Bool) (loans : List ParameterLoan) → ((loan : ParameterLoan) → p loan ≡ true → q loan ≡ true) → list_any p loans ≡ true →
     (loan : ParameterLoan) × (find q loans ≡ Some loan) × (q loan ≡ true)
 find_passes p q [] implies some = absurd cc
 find_passes p q (x ∷ loans) implies some = by (q x) refl (λ later. find_passes p q loans implies later)
@@ -137,7 +146,7 @@ find_passes p q (x ∷ loans) implies some = by (q x) refl (λ later. find_passe
             let one : (loan : ParameterLoan) × (find q loans ≡ Some loan) × (q loan ≡ true) = rest later in
             (one.0, ap (λ t. cond t (Some x) (find q loans)) is ∙ one.1, one.2)
 
-out_is_numbered : (name : List ℕ) (number len : ℕ) (loan : ParameterLoan) → is_parameter_out name number len loan ≡ true → (loan.number == number) ≡ true
+pub out_is_numbered : (name : List ℕ) (number len : ℕ) (loan : ParameterLoan) → is_parameter_out name number len loan ≡ true → (loan.number == number) ≡ true
 out_is_numbered name number len loan is =
     (and_parts (loan.number == number) (bytes_eq loan.name name) (and_parts ((loan.number == number) && bytes_eq loan.name name) (loan.count * byte_size loan.elem == len) is).0).0
 

@@ -1,10 +1,10 @@
 -- How the live objects grow from the roots, over any map of objects by rising handles.
-use Rattle.std.proofs.Common.{ℕ, zero, suc, ◌+◌, ◌-◌, ◌≡◌, ◌<◌, ◌≤◌, ◌∙◌, ◌⊎◌, inl, inr, Bool, true, false, List, [], ◌∷◌, All, Option, Some, None, refl, sym, ap, subst, arith}
+use Rattle.std.proofs.Common.{ℕ, zero, suc, ◌+◌, ◌-◌, ◌≡◌, ◌≤◌, ◌∙◌, ◌⊎◌, inl, inr, Bool, true, List, [], ◌∷◌, All, Option, Some, None, refl, sym, ap, subst, arith}
 use Rattle.std.specs.Prelude.{cond, ◌||◌}
-use Rattle.std.specs.List.{filter, list_any}
+use Rattle.std.specs.List.{filter}
 use Rattle.std.specs.Map.{keys_of}
 use Rattle.std.proofs.lemmas.Bool.{or_cases, or_left, or_right}
-use Rattle.std.proofs.lemmas.List.Elements.{All-head, All-tail, All-nil}
+use Rattle.std.proofs.lemmas.List.Elements.{All-head, All-tail}
 use Rattle.std.proofs.lemmas.Map.Entries.{option_filter}
 use Rattle.seq_model.proofs.Came.{filtered}
 use Rattle.seq_model.proofs.Handles.{lives, live_keeps}
@@ -69,6 +69,7 @@ module _ (root : ℕ × Object → Bool) (low high : ℕ) (objects : Objects) (r
     where
       there : at h objects ≡ Some o
       there = (is_in (suc n) h o found).0
+
       by : ((k : ℕ) (p : Object) → at k (grown root objects n) ≡ Some p → at k (grown root objects (suc n)) ≡ Some p) →
           (root (h, o) ≡ true) ⊎ ((k : ℕ) × (p : Object) × (at k (grown root objects n) ≡ Some p) × (has h (names_of p) ≡ true)) → at h (grown root objects (suc (suc n))) ≡ Some o
       by deeper (inl is) = root_is_in (suc (suc n)) h o there is
@@ -110,6 +111,7 @@ module _ (root : ℕ × Object → Bool) (low high : ℕ) (objects : Objects) (r
     where
       alive : at h (live root objects) ≡ Some o
       alive = lives_from h o (in_within (suc n) 10 h o few found)
+
       by : ((k : ℕ) (p : Object) → at k (grown root objects n) ≡ Some p → at k (grown root (live root objects) n) ≡ Some p) →
           (root (h, o) ≡ true) ⊎ ((k : ℕ) × (p : Object) × (at k (grown root objects n) ≡ Some p) × (has h (names_of p) ≡ true)) → at h (grown root (live root objects) (suc n)) ≡ Some o
       by shallower (inl is) = put_among (suc n) h o alive (or_left (root (h, o)) (is_named_by (grown root (live root objects) n) h) is)
@@ -130,9 +132,11 @@ live_twice root low high objects rising = live_keeps root (live root objects) �
   where
     live_rising : RisesWithin low high (keys_of (live root objects))
     live_rising = live_rises root low high objects rising
+
     each : (h : ℕ) (o : Object) → at h (live root objects) ≡ Some o → lives root (live root objects) (h, o) ≡ true
     each h o found =
         (is_in root low high (live root objects) live_rising 10 h o
         (again_in root low high objects rising 10 h o (omega arith) (lives_at root low high objects rising h o found))).1
+
     all : All (λ entry. lives root (live root objects) entry ≡ true) (live root objects)
     all = all_from_at (λ (entry : ℕ × Object). lives root (live root objects) entry ≡ true) low high (live root objects) live_rising each

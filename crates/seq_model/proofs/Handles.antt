@@ -1,6 +1,6 @@
 -- Handles rise, and none is used again.
-use Rattle.std.proofs.Common.{ℕ, ◌+◌, ◌==◌, not, Less, ◌≡◌, ◌<◌, ◌≤◌, ◌∙◌, Bool, List, [], ◌∷◌, ◌++◌, All, Option, Some, None, map, refl, sym, ap, subst, arith}
-use Rattle.std.specs.Prelude.{◌||◌, fold}
+use Rattle.std.proofs.Common.{ℕ, ◌+◌, ◌==◌, not, Less, ◌≡◌, ◌<◌, ◌≤◌, ◌∙◌, Bool, List, [], ◌∷◌, ◌++◌, All, refl, sym, ap, subst, arith}
+use Rattle.std.specs.Prelude.{◌||◌}
 use Rattle.std.specs.List.{filter}
 use Rattle.std.specs.List.{AllByRecursion}
 use Rattle.std.specs.List.Sorted.{IsStrictlyIncreasing, IsStrictlySortedBy}
@@ -12,11 +12,11 @@ use Rattle.std.proofs.lemmas.Map.Keys.{IsStrictlyIncreasing-from_sorted}
 use Rattle.std.proofs.lemmas.Map.Made.{keys_of-map_values}
 use Rattle.seq_model.proofs.Afters.{after_both, after_by, keeps_by}
 use Rattle.seq_model.proofs.Changes.{Change, Quiet, Making, Rendering, Discarding, Finishing, Leaving, Closing, IsQuiet, entry_changes, keys_of_changed}
-use Rattle.seq_model.proofs.Keys.{RisesWithin, rises_filtered, rises_up, rises_with_next, rises_from_lower}
-use Rattle.seq_model.specs.Histories.{History, public, rendered}
+use Rattle.seq_model.proofs.Keys.{RisesWithin, rises_filtered, rises_up, rises_with_next}
+use Rattle.seq_model.specs.Histories.{History, public}
 use Rattle.seq_model.specs.Life.{grown, is_named_by, is_root, live}
-use Rattle.seq_model.specs.State.{Object, Phase, Empty, Flight, Done, State, changed_at, object_at, with_object}
-use Rattle.seq_model.specs.Steps.{Past, after, change, discard, end_flight, end_flights, is_reached, next_place, set_phase, start, step, stop, swept, with_reach}
+use Rattle.seq_model.specs.State.{Object, Phase, Empty, Flight, Done, State, changed_at, with_object}
+use Rattle.seq_model.specs.Steps.{Past, after, change, discard, end_flight, end_flights, is_reached, next_place, set_phase, step, stop, swept}
 use Rattle.seq_model.specs.declared.calls.Entry.{Entry}
 
 -- the keys of a state rise, and stay below the next handle
@@ -35,7 +35,7 @@ stop_keeps (Flight t) s = (refl, refl)
 stop_keeps Empty s = (refl, refl)
 stop_keeps (Done t) s = (refl, refl)
 
-rises_as : (s t : State) → keys_of t.objects ≡ keys_of s.objects → t.next ≡ s.next → IsRising s → IsRising t × (s.next ≤ t.next)
+pub rises_as : (s t : State) → keys_of t.objects ≡ keys_of s.objects → t.next ≡ s.next → IsRising s → IsRising t × (s.next ≤ t.next)
 rises_as s t keys next rising =
     (subst (λ ks. RisesWithin 1 t.next ks) (sym keys) (subst (λ n. RisesWithin 1 n (keys_of s.objects)) (sym next) rising), omega (arith, next))
 
@@ -57,10 +57,6 @@ ended_rises : (u : ℕ) (phase : Phase) (left : List ℕ) (s : State) → IsRisi
     IsRising (record (end_flights u phase s) { stopped = left }) × (s.next ≤ (end_flights u phase s).next)
 unfolding end_flights
 ended_rises u phase left s rising = rises_as s (record (end_flights u phase s) { stopped = left }) (keys_of-map_values (end_flight u phase) s.objects) refl rising
-
-same_stopped : (u : ℕ) (phase : Phase) (s : State) → record (end_flights u phase s) { stopped = s.stopped } ≡ end_flights u phase s
-unfolding end_flights
-same_stopped u phase s = refl
 
 pub change_rises : (place : ℕ) (e : Entry) (s t : State) → Change place e s t → IsRising s → IsRising t × (s.next ≤ t.next)
 unfolding end_flights
@@ -108,10 +104,12 @@ sweep_rises past s rising =
     let objects : RisesWithin 1 s.next (keys_of (swept past.seen past.reached s).objects) = subst (λ es. RisesWithin 1 s.next (keys_of es)) (sym (swept_objects past s)) kept in
     subst (λ n. RisesWithin 1 n (keys_of (swept past.seen past.reached s).objects)) (sym (swept_next past s).0) objects
 
+pub changed_rises : (past : Past) (e : Entry) → IsRising past.state → IsRising (changed past e) × (past.state.next ≤ (changed past e).next)
+changed_rises past e rising = change_rises (next_place past) e past.state (changed past e) (entry_changes (next_place past) e past.state) rising
+
 pub step_rises : (past : Past) (e : Entry) → IsRising past.state → IsRising (step past e).state × (past.state.next ≤ (step past e).state.next)
 step_rises past e rising =
-    let changes : IsRising (changed past e) × (past.state.next ≤ (changed past e).next) =
-    change_rises (next_place past) e past.state (changed past e) (entry_changes (next_place past) e past.state) rising in
+    let changes : IsRising (changed past e) × (past.state.next ≤ (changed past e).next) = changed_rises past e rising in
     subst (λ s. IsRising s × (past.state.next ≤ s.next)) (sym (step_state past e))
     (sweep_rises (step past e) (changed past e) changes.0, omega (arith, changes.1, (swept_next (step past e) (changed past e)).0))
 
@@ -134,17 +132,17 @@ all_above low high (x ∷ ks) k less up =
     let lower : nat_cmp k x ≡ Less = grind (arith, nat_tests) in
     (lower, all_above (x + 1) high ks k (omega arith) up.1)
 
-sorted : (low high : ℕ) (ks : List ℕ) → RisesWithin low high ks → IsStrictlySortedBy nat_cmp ks
+pub sorted : (low high : ℕ) (ks : List ℕ) → RisesWithin low high ks → IsStrictlySortedBy nat_cmp ks
 unfolding IsStrictlySortedBy
 sorted low high [] up = tt
 sorted low high (k ∷ ks) up = (all_above (k + 1) high ks k (omega arith) up.1, sorted (k + 1) high ks up.1)
 
-keys_above : (low high : ℕ) (ks : List ℕ) → RisesWithin low high ks → All (λ k. low ≤ k) ks
+pub keys_above : (low high : ℕ) (ks : List ℕ) → RisesWithin low high ks → All (λ k. low ≤ k) ks
 keys_above low high [] up = All-nil (λ (k : ℕ). low ≤ k)
 keys_above low high (k ∷ ks) up =
     All-cons (λ (x : ℕ). low ≤ x) k ks up.0 (All-weaker (λ (x : ℕ). k + 1 ≤ x) (λ (x : ℕ). low ≤ x) (λ x h. omega (arith, h, up.0)) ks (keys_above (k + 1) high ks up.1))
 
-keys_below : (low high : ℕ) (ks : List ℕ) → RisesWithin low high ks → All (λ k. k < high) ks
+pub keys_below : (low high : ℕ) (ks : List ℕ) → RisesWithin low high ks → All (λ k. k < high) ks
 keys_below low high [] up = All-nil (λ (k : ℕ). k < high)
 keys_below low high (k ∷ ks) up =
     let more : k + 1 ≤ high = rises_up (k + 1) high ks up.1 in

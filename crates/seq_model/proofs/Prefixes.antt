@@ -1,6 +1,6 @@
 -- Legal histories: their prefixes are legal, and when one more entry may follow.
-use Rattle.std.proofs.Common.{ℕ, ◌+◌, ◌≡◌, ◌∙◌, ◌⊎◌, inl, inr, Bool, true, false, not, List, [], ◌∷◌, ◌++◌, IsTrue, refl, sym, ap, subst, append_assoc, arith}
-use Rattle.std.specs.Prelude.{◌&&◌, ◌||◌, fold}
+use Rattle.std.proofs.Common.{ℕ, ◌≡◌, ◌∙◌, ◌⊎◌, inl, inr, Bool, true, false, not, List, [], ◌∷◌, ◌++◌, IsTrue, refl, sym, ap, subst, append_assoc}
+use Rattle.std.specs.Prelude.{◌||◌, fold}
 use Rattle.std.specs.List.{list_any}
 use Rattle.std.proofs.lemmas.Bool.{and_from, and_parts, not-true, not_from_false, or_cases, or_left, or_parts, or_right}
 use Rattle.std.proofs.lemmas.List.{append-nil}
@@ -8,9 +8,8 @@ use Rattle.std.proofs.lemmas.List.Folds.{list_any-append}
 use Rattle.seq_model.proofs.Afters.{after_more}
 use Rattle.seq_model.specs.Extensions.{let_follow, let_follow_from, lets_follow, readings_from, readings_of}
 use Rattle.seq_model.specs.Histories.{History}
-use Rattle.seq_model.specs.Legal.{GoesOn, IsInPlace, IsNext, Legal, is_called, is_flying, reading, with_reading}
+use Rattle.seq_model.specs.Legal.{GoesOn, IsInPlace, IsNext, Legal, is_called, reading, with_reading}
 use Rattle.seq_model.specs.Life.{has}
-use Rattle.seq_model.specs.State.{flights}
 use Rattle.seq_model.specs.Steps.{Past, after, start, step}
 use Rattle.seq_model.specs.declared.calls.Entry.{Entry}
 use Rattle.seq_model.specs.declared.calls.Entry.TheVariants.{Called, Finished, Left, Closed}
@@ -71,9 +70,10 @@ follows_by_leave past (e ∷ rest) next Closed placed = let none : e ∷ (rest +
 pub goes_on_less : (past : Past) (readings : List (ℕ × ℕ)) (first further : History) → GoesOn past readings (first ++ further) → GoesOn past readings first
 unfolding GoesOn
 goes_on_less past readings [] further goes = tt
-goes_on_less past readings (e ∷ first) further goes =
-    (record { placed = place_before_less past first further e goes.0.placed; rising = goes.0.rising },
-    goes_on_less (step past e) (with_reading (reading past e) readings) first further goes.1)
+goes_on_less past readings (e ∷ first) further goes = (
+  record { placed = place_before_less past first further e goes.0.placed; rising = goes.0.rising },
+  goes_on_less (step past e) (with_reading (reading past e) readings) first further goes.1,
+)
 
 -- with one more entry
 pub goes_on_more : (past : Past) (readings : List (ℕ × ℕ)) (first : History) (e : Entry) → GoesOn past readings first →
@@ -81,9 +81,10 @@ pub goes_on_more : (past : Past) (readings : List (ℕ × ℕ)) (first : History
 unfolding GoesOn let_follow_from readings_from
 goes_on_more past readings [] e goes next lets = (next, tt)
 goes_on_more past readings (x ∷ first) e goes next lets =
-    let both : (lets_follow past x e ≡ true) × (let_follow_from (step past x) first e ≡ true) = and_parts (lets_follow past x e) (let_follow_from (step past x) first e) lets in
-    (record { placed = place_before_more past first e x goes.0.placed both.0; rising = goes.0.rising },
-    goes_on_more (step past x) (with_reading (reading past x) readings) first e goes.1 next both.1)
+    let both : (lets_follow past x e ≡ true) × (let_follow_from (step past x) first e ≡ true) = and_parts (lets_follow past x e) (let_follow_from (step past x) first e) lets in (
+      record { placed = place_before_more past first e x goes.0.placed both.0; rising = goes.0.rising },
+      goes_on_more (step past x) (with_reading (reading past x) readings) first e goes.1 next both.1,
+    )
 
 -- what stands in its midst
 pub next_in_midst : (past : Past) (readings : List (ℕ × ℕ)) (first : History) (e : Entry) (rest : History) → GoesOn past readings (first ++ e ∷ rest) →

@@ -1,5 +1,5 @@
 -- What a flight reached is what the walk of the state before its render visits, and stays so.
-use Rattle.std.proofs.Common.{ℕ, zero, suc, ◌+◌, ◌≡◌, ◌<◌, ◌≤◌, ◌∙◌, ◌⊎◌, inl, inr, Bool, true, false, List, [], ◌∷◌, ◌++◌, Option, Some, None, map, refl, sym, ap, subst, length, arith, length-append}
+use Rattle.std.proofs.Common.{ℕ, ◌+◌, ◌≡◌, ◌<◌, ◌≤◌, ◌∙◌, ◌⊎◌, inl, inr, false, List, [], ◌∷◌, ◌++◌, Option, Some, None, refl, sym, ap, subst, length, arith, length-append}
 use Rattle.std.specs.Map.{keys_of}
 use Rattle.std.specs.Option.{option_or}
 use Rattle.std.specs.BTreeMap.{is_at}
@@ -11,7 +11,7 @@ use Rattle.seq_model.proofs.Keys.{RisesWithin, at, at_append, key_here, key_is_o
 use Rattle.seq_model.specs.Histories.{History, frame_at, rendered}
 use Rattle.seq_model.specs.Pictures.{state_before}
 use Rattle.seq_model.specs.State.{State, scene_objects}
-use Rattle.seq_model.specs.Steps.{Past, after, next_place, start, step, with_reach}
+use Rattle.seq_model.specs.Steps.{Past, after, step, with_reach}
 use Rattle.seq_model.specs.declared.calls.Entry.{Entry}
 
 -- what the walk of a frame visits
@@ -70,17 +70,21 @@ carries_more history e reached carries = record { within = within; right = right
   where
     longer : length (history ++ e ∷ []) ≡ length history + 1
     longer = length-append history (e ∷ [])
+
     within : RisesWithin 1 (length (history ++ e ∷ []) + 1) (keys_of (with_reach (length history + 1) (rendered e) (after history).state reached))
     within =
         subst (λ n. RisesWithin 1 (n + 1) (keys_of (with_reach (length history + 1) (rendered e) (after history).state reached))) (sym longer)
         (reach_within (length history + 1) (rendered e) (after history).state reached carries.within)
+
     fresh : at (length history + 1) reached ≡ None
     fresh = nothing_outside (length history + 1) 1 (length history + 1) reached carries.within (λ low high. omega (arith, high))
+
     at_last : (f : ℕ) → rendered e ≡ Some f → at (length history + 1) (with_reach (length history + 1) (rendered e) (after history).state reached) ≡ Some (reach_of (state_before (history ++ e ∷ []) (length history + 1)) f)
     at_last f is =
         let first : at (length history + 1) (with_reach (length history + 1) (rendered e) (after history).state reached) ≡ Some (reach_of (after history).state f) =
         ap (λ r. at (length history + 1) (with_reach (length history + 1) r (after history).state reached)) is ∙ reach_here (length history + 1) f (after history).state reached fresh in
         first ∙ ap (λ s. Some (reach_of s f)) (sym (state_early history (e ∷ []) (length history + 1) (omega arith) ∙ state_next history))
+
     right : (t f : ℕ) → frame_at (history ++ e ∷ []) t ≡ Some f → at t (with_reach (length history + 1) (rendered e) (after history).state reached) ≡ Some (reach_of (state_before (history ++ e ∷ []) t) f)
     right t f found = by (cases_lt t (length history + 1))
       where
@@ -94,6 +98,7 @@ carries_more history e reached carries = record { within = within; right = right
             let last : t ≡ length history + 1 = omega (arith, more, inside.1, longer) in
             subst (λ t. at t (with_reach (length history + 1) (rendered e) (after history).state reached) ≡ Some (reach_of (state_before (history ++ e ∷ []) t) f)) (sym last)
             (at_last f (sym (frame_last history e) ∙ subst (λ t. frame_at (history ++ e ∷ []) t ≡ Some f) last found))
+
     nothing : (t : ℕ) → frame_at (history ++ e ∷ []) t ≡ None → at t (with_reach (length history + 1) (rendered e) (after history).state reached) ≡ None
     nothing t none = by (cases_eq t (length history + 1))
       where

@@ -1,8 +1,5 @@
 -- What is sound stays sound where what it names keeps its kind, and what is sound names what stands lower.
-use Rattle.std.proofs.Common.{ℕ, ◌+◌, ◌==◌, ◌≡◌, ◌<◌, ◌≤◌, ◌∙◌, ◌⊎◌, inl, inr, Bool, true, false, not, List, [], ◌∷◌, ◌++◌, All, Option, Some, None, map, refl, sym, ap, subst, arith}
-use Rattle.std.specs.Prelude.{cond, ◌||◌}
-use Rattle.std.specs.List.{filter, filter_map, list_any}
-use Rattle.std.specs.Map.{keys_of}
+use Rattle.std.proofs.Common.{ℕ, ◌==◌, ◌≡◌, ◌<◌, ◌∙◌, ◌⊎◌, inl, inr, true, List, [], ◌∷◌, ◌++◌, All, Option, Some, None, map, refl, sym, ap, subst}
 use Rattle.std.specs.Option.{IsSomeAnd, MatchOption, option_map, option_or}
 use Rattle.std.proofs.lemmas.Bool.{cases_eq, eq-eqb, eqb-true, or_cases, or_left, or_right}
 use Rattle.std.proofs.lemmas.List.Elements.{All-nil, All-cons, All-head, All-tail}
@@ -13,18 +10,17 @@ use Rattle.dev_types.specs.declared.values.Value.{Value}
 use Rattle.kind_tables.specs.Kinds.{type_of_kind}
 use Rattle.kind_tables.specs.Ranks.{rank_of}
 use Rattle.kind_tables.specs.Rows.{row_of}
-use Rattle.kind_tables.specs.SceneObjects.{Block, object_in, objects_in}
+use Rattle.kind_tables.specs.SceneObjects.{object_in, objects_in}
 use Rattle.kind_tables.specs.declared.kinds.Kind.{Kind}
 use Rattle.kind_tables.specs.declared.kinds.Kind.TheVariants.{Array}
 use Rattle.kind_tables.specs.declared.rows.Row.{Row}
 use Rattle.seq_model.proofs.Changes.{changed_here, others_unchanged}
 use Rattle.seq_model.proofs.Came.{added, end_is}
-use Rattle.seq_model.proofs.Handles.{IsRising}
-use Rattle.seq_model.proofs.Keys.{at, at_append, at_map, key_is, nothing_outside}
+use Rattle.seq_model.proofs.Keys.{at, at_append, at_map}
 use Rattle.seq_model.proofs.Tables.{element_lower, takes_lower}
 use Rattle.seq_model.specs.Life.{has, names_of, objects_of, objects_of_elements}
-use Rattle.seq_model.specs.Soundness.{AllFit, AllSound, ArrayFits, ElementsFit, Fits, IsSound, LoanFits, NamesFitting, Takes}
-use Rattle.seq_model.specs.State.{ArrayState, Object, Phase, Empty, Flight, Done, State, changed_at, object_at, with_object}
+use Rattle.seq_model.specs.Soundness.{AllFit, AllSound, ArrayFits, Fits, IsSound, NamesFitting, Takes}
+use Rattle.seq_model.specs.State.{ArrayState, Object, Phase, Flight, State, changed_at, object_at, with_object}
 use Rattle.seq_model.specs.Steps.{end_flight, end_flights, set_phase}
 
 -- the object k, if it is there, is still there, with its kind
@@ -38,14 +34,15 @@ kind_kept Q s t k keeps holds = by (object_at s k) refl holds
     then_ : (o : Object) (y : Option Object) → Q o.kind → IsSomeAnd y (λ p. p.kind ≡ o.kind) → IsSomeAnd y (λ p. Q p.kind)
     then_ o None q same = absurd same
     then_ o (Some p) q same = subst Q (sym same) q
+
     by : (x : Option Object) → object_at s k ≡ x → IsSomeAnd x (λ o. Q o.kind) → IsSomeAnd (object_at t k) (λ o. Q o.kind)
     by None is q = absurd q
     by (Some o) is q = then_ o (object_at t k) q (keeps o is)
 
-has_head : (k : ℕ) (ks : List ℕ) → has k (k ∷ ks) ≡ true
+pub has_head : (k : ℕ) (ks : List ℕ) → has k (k ∷ ks) ≡ true
 has_head k ks = or_left (k == k) (has k ks) (eq-eqb k k refl)
 
-has_tail : (k j : ℕ) (ks : List ℕ) → has k ks ≡ true → has k (j ∷ ks) ≡ true
+pub has_tail : (k j : ℕ) (ks : List ℕ) → has k ks ≡ true → has k (j ∷ ks) ≡ true
 has_tail k j ks is = or_right (j == k) (has k ks) is
 
 has_left : (k : ℕ) (js ks : List ℕ) → has k js ≡ true → has k (js ++ ks) ≡ true
@@ -74,6 +71,7 @@ values_kept s t kind (e ∷ values) keeps fit =
   where
     first : (k : ℕ) → object_in e.1 ≡ Some k → has k (objects_of (e ∷ values)) ≡ true
     first k is = rw is (has_head k (objects_of values))
+
     later : (x : Option ℕ) (k : ℕ) → object_in e.1 ≡ x → has k (objects_of values) ≡ true → has k (objects_of (e ∷ values)) ≡ true
     later None k is there = rw is there
     later (Some j) k is there = rw is (has_tail k j (objects_of values) there)
@@ -97,7 +95,7 @@ in_staged o k is = has_left k (objects_of o.staged ++ objects_of o.committed) (o
 in_committed : (o : Object) (k : ℕ) → has k (objects_of o.committed) ≡ true → has k (names_of o) ≡ true
 in_committed o k is = has_left k (objects_of o.staged ++ objects_of o.committed) (objects_of_elements o.array) (has_right k (objects_of o.staged) (objects_of o.committed) is)
 
-in_elements : (o : Object) (k : ℕ) → has k (objects_of_elements o.array) ≡ true → has k (names_of o) ≡ true
+pub in_elements : (o : Object) (k : ℕ) → has k (objects_of_elements o.array) ≡ true → has k (names_of o) ≡ true
 in_elements o k is = has_right k (objects_of o.staged ++ objects_of o.committed) (objects_of_elements o.array) is
 
 -- an object is sound in another state where all that it names is kept
@@ -113,7 +111,7 @@ sound_kept s t o keeps sound = record {
 abbrev pub IsLower : State → Kind → ℕ → Type 0
 IsLower s kind k = IsSomeAnd (object_at s k) (λ o. rank_of o.kind < rank_of kind)
 
-fitting_is_lower : (s : State) (kind : Kind) (name : List ℕ) (k : ℕ) → NamesFitting s kind name k → IsLower s kind k
+pub fitting_is_lower : (s : State) (kind : Kind) (name : List ℕ) (k : ℕ) → NamesFitting s kind name k → IsLower s kind k
 fitting_is_lower s kind name k fits = by (object_at s k) (row_of kind name) refl fits
   where
     by : (x : Option Object) (y : Option Row) → row_of kind name ≡ y → IsSomeAnd x (λ o. IsSomeAnd y (λ row. Takes row o.kind)) → IsSomeAnd x (λ o. rank_of o.kind < rank_of kind)
@@ -128,6 +126,7 @@ values_are_lower s kind (e ∷ values) k fit is =
   where
     here : Fits s kind e.0 e.1
     here = All-head (λ (entry : List ℕ × Value). Fits s kind entry.0 entry.1) e values fit
+
     by : (x : Option ℕ) → object_in e.1 ≡ x → (has k (objects_of values) ≡ true → IsLower s kind k) → IsLower s kind k
     by None test rest = rest (rw test at is)
     by (Some j) test rest = of (or_cases (j == k) (has k (objects_of values)) (rw test at is))
@@ -148,6 +147,7 @@ elements_are_lower s elem (n ∷ named) k may fit is =
     lower : (x : Option Object) → IsSomeAnd x (λ o. type_of_kind o.kind ≡ elem) → IsSomeAnd x (λ o. rank_of o.kind < rank_of (Array elem))
     lower None has_type = absurd has_type
     lower (Some o) has_type = element_lower elem o.kind may has_type
+
     by : ((n.1 == k) ≡ true) ⊎ (has k (map (λ (n : ℕ × ℕ). n.1) named) ≡ true) → (has k (map (λ (n : ℕ × ℕ). n.1) named) ≡ true → IsLower s (Array elem) k) → IsLower s (Array elem) k
     by (inl same) rest =
         subst (IsLower s (Array elem)) (eqb-true n.1 k same) (lower (object_at s n.1) (All-head (λ (n : ℕ × ℕ). IsSomeAnd (object_at s n.1) (λ o. type_of_kind o.kind ≡ elem)) n named fit))
@@ -163,6 +163,7 @@ names_are_lower s o k sound is = by (has_either k (objects_of o.staged ++ object
     of : (has k (objects_of o.staged) ≡ true) ⊎ (has k (objects_of o.committed) ≡ true) → IsLower s o.kind k
     of (inl staged) = values_are_lower s o.kind o.staged k sound.staged staged
     of (inr committed) = values_are_lower s o.kind o.committed k sound.committed committed
+
     by : (has k (objects_of o.staged ++ objects_of o.committed) ≡ true) ⊎ (has k (objects_of_elements o.array) ≡ true) → IsLower s o.kind k
     by (inl values) = of (has_either k (objects_of o.staged) (objects_of o.committed) values)
     by (inr elements) = array_is_lower s o.kind o.array k sound.array elements
@@ -182,7 +183,7 @@ all_sound s each h = by (object_at s h) refl
 some_kind : (s : State) (k : ℕ) (o : Object) (x : Option Object) → x ≡ Some o → IsSomeAnd x (λ p. p.kind ≡ o.kind)
 some_kind s k o x is = subst (λ x. IsSomeAnd x (λ p. p.kind ≡ o.kind)) (sym is) refl
 
-changed_keeps : (h : ℕ) (f : Object → Object) (s : State) → ((o : Object) → (f o).kind ≡ o.kind) → (k : ℕ) → KeepsAt s (changed_at h f s) k
+pub changed_keeps : (h : ℕ) (f : Object → Object) (s : State) → ((o : Object) → (f o).kind ≡ o.kind) → (k : ℕ) → KeepsAt s (changed_at h f s) k
 changed_keeps h f s same k o found = by (cases_eq k h)
   where
     by : (k ≡ h) ⊎ (k ≡ h → ⊥) → IsSomeAnd (object_at (changed_at h f s) k) (λ p. p.kind ≡ o.kind)
@@ -198,9 +199,11 @@ changed_sound h f s same stays all = all_sound (changed_at h f s) each
   where
     kept : (o : Object) → IsSound s o → IsSound (changed_at h f s) o
     kept o sound = sound_kept s (changed_at h f s) o (λ k is. changed_keeps h f s same k) sound
+
     here : (x : Option Object) (p : Object) → object_at s h ≡ x → option_map f x ≡ Some p → IsSound (changed_at h f s) p
     here None p was is = absurd cc
     here (Some o) p was is = let value : f o ≡ p = cc in subst (IsSound (changed_at h f s)) value (kept (f o) (stays o was (sound_at s h o all was)))
+
     each : (k : ℕ) (p : Object) → object_at (changed_at h f s) k ≡ Some p → IsSound (changed_at h f s) p
     each k p found = by (cases_eq k h)
       where
@@ -209,7 +212,7 @@ changed_sound h f s same stays all = all_sound (changed_at h f s) each
         by (inr apart) = kept p (sound_at s k p all (sym (others_unchanged h k f s apart) ∙ found))
 
 -- one object more
-new_keeps : (o : Object) (s : State) (k : ℕ) → KeepsAt s (with_object o s) k
+pub new_keeps : (o : Object) (s : State) (k : ℕ) → KeepsAt s (with_object o s) k
 new_keeps o s k p found =
     some_kind s k p (object_at (with_object o s) k) (at_append k s.objects ((s.next, o) ∷ []) ∙ ap (λ x. option_or x (at k ((s.next, o) ∷ []))) found)
 
@@ -218,6 +221,7 @@ new_sound o s sound all = all_sound (with_object o s) each
   where
     kept : (p : Object) → IsSound s p → IsSound (with_object o s) p
     kept p now = sound_kept s (with_object o s) p (λ k is. new_keeps o s k) now
+
     each : (k : ℕ) (p : Object) → object_at (with_object o s) k ≡ Some p → IsSound (with_object o s) p
     each k p found = by (added o s k p found)
       where
@@ -247,13 +251,13 @@ ended_sound u phase left s all = all_sound (record (end_flights u phase s) { sto
     keeps : (k : ℕ) → KeepsAt s (record (end_flights u phase s) { stopped = left }) k
     keeps k o found =
         subst (λ x. IsSomeAnd x (λ p. p.kind ≡ o.kind)) (sym (at_map (end_flight u phase) k s.objects ∙ ap (option_map (end_flight u phase)) found)) (end_kind u phase o)
+
     from : (k : ℕ) (x : Option Object) (p : Object) → object_at s k ≡ x → option_map (end_flight u phase) x ≡ Some p → IsSound (record (end_flights u phase s) { stopped = left }) p
     from k None p was is = absurd cc
     from k (Some o) p was is =
         let value : end_flight u phase o ≡ p = cc in
         subst (IsSound (record (end_flights u phase s) { stopped = left })) value
         (sound_kept s (record (end_flights u phase s) { stopped = left }) (end_flight u phase o) (λ k is. keeps k) (end_sound u phase s o (sound_at s k o all was)))
+
     each : (k : ℕ) (p : Object) → object_at (record (end_flights u phase s) { stopped = left }) k ≡ Some p → IsSound (record (end_flights u phase s) { stopped = left }) p
     each k p found = from k (object_at s k) p refl (sym (at_map (end_flight u phase) k s.objects) ∙ found)
-pub use_me : ℕ
-use_me = 0

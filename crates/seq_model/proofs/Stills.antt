@@ -1,18 +1,17 @@
 -- A call that was refused, a ready and a query change nothing.
-use Rattle.std.proofs.Common.{ℕ, ◌+◌, ◌-◌, ◌≡◌, ◌∙◌, Bool, true, false, List, [], ◌∷◌, ◌++◌, Option, Some, None, refl, sym, ap, subst, arith}
+use Rattle.std.proofs.Common.{ℕ, ◌+◌, ◌≡◌, ◌∙◌, Bool, false, List, [], ◌∷◌, ◌++◌, None, refl, ap, arith}
 use Rattle.std.specs.Prelude.{cond, count_by}
 use Rattle.std.proofs.lemmas.List.Sums.{fold_push}
 use Rattle.seq_model.proofs.Afters.{after_more}
-use Rattle.seq_model.proofs.Handles.{changed, root_of}
 use Rattle.seq_model.proofs.Sweeps.{is_swept}
 use Rattle.seq_model.specs.Histories.{History, is_making, is_releasing, is_retaining, public, rendered}
 use Rattle.seq_model.specs.Life.{is_root, live}
-use Rattle.seq_model.specs.State.{Object, State}
+use Rattle.seq_model.specs.State.{State}
 use Rattle.seq_model.specs.Steps.{Past, after, change, effect, is_reached, next_place, step, swept, with_reach}
 use Rattle.seq_model.specs.declared.calls.Call.{Call}
-use Rattle.seq_model.specs.declared.calls.Call.TheVariants.{NewObject, NewArray, Retain, Release, SetParameter, UnsetParameter, UnsetAll, Commit, MapArray, UnmapArray, MapParameterArray, UnmapParameterArray, RenderFrame, FrameReady, DiscardFrame, MapFrame, UnmapFrame, GetProperty, Subtypes, ObjectInfo, ParameterInfo}
+use Rattle.seq_model.specs.declared.calls.Call.TheVariants.{Retain, FrameReady, GetProperty, Subtypes, ObjectInfo, ParameterInfo}
 use Rattle.seq_model.specs.declared.calls.Entry.{Entry}
-use Rattle.seq_model.specs.declared.calls.Entry.TheVariants.{Called, Finished, Left, Closed}
+use Rattle.seq_model.specs.declared.calls.Entry.TheVariants.{Called}
 use Rattle.seq_model.specs.declared.calls.Reply.{Reply}
 use Rattle.seq_model.specs.declared.calls.Reply.TheVariants as reply
 use Rattle.dev_types.specs.declared.data_types.DataType.{DataType}

@@ -1,27 +1,26 @@
 -- A state from which all that does not live is gone stays as it is in the next sweep.
-use Rattle.std.proofs.Common.{ℕ, zero, suc, ◌+◌, ◌==◌, ◌≡◌, ◌<◌, ◌≤◌, ◌∙◌, ◌⊎◌, inl, inr, Bool, true, false, List, [], ◌∷◌, ◌++◌, All, Option, Some, None, refl, sym, ap, subst, length, map, arith}
-use Rattle.std.specs.Prelude.{cond, ◌||◌}
+use Rattle.std.proofs.Common.{ℕ, ◌+◌, ◌==◌, ◌≡◌, ◌<◌, ◌∙◌, Bool, true, false, List, [], ◌∷◌, ◌++◌, All, Option, Some, None, refl, sym, ap, subst, length, arith}
+use Rattle.std.specs.Prelude.{cond}
 use Rattle.std.specs.List.{filter, filter_map, flat_map, list_any}
-use Rattle.std.specs.Map.{keys_of}
 use Rattle.std.specs.Option.{option_map, option_map_or, unwrap_or}
 use Rattle.std.specs.BTreeMap.{is_at}
 use Rattle.std.specs.Ordering.{nat_cmp}
-use Rattle.std.proofs.lemmas.Bool.{cases_eq, eq-eqb, or_left, or_right}
+use Rattle.std.proofs.lemmas.Bool.{eq-eqb, or_left, or_right}
 use Rattle.std.proofs.lemmas.List.Elements.{All-head, All-tail}
 use Rattle.std.proofs.lemmas.List.Folds.{list_any-append}
 use Rattle.kind_tables.specs.SceneObjects.{SceneObject}
-use Rattle.kind_tables.specs.Walks.{Visit, at_origin, below, visit, visited, walk, walk_from}
+use Rattle.kind_tables.specs.Walks.{at_origin, below, visit, visited, walk, walk_from}
 use Rattle.seq_model.proofs.Afters.{after_more, grows_by, seen_is_history}
-use Rattle.seq_model.proofs.Came.{ComesFrom, IsNew, Was, PhaseStep, Kept, Emptied, Started, Ended, change_back, swept_was}
+use Rattle.seq_model.proofs.Came.{ComesFrom, IsNew, Was, Kept, Emptied, Started, Ended, change_back, swept_was}
 use Rattle.seq_model.proofs.Changes.{entry_changes}
-use Rattle.seq_model.proofs.Growths.{live_twice, root_is_in, lives_from}
-use Rattle.seq_model.proofs.Handles.{IsRising, change_rises, changed, lives, rises, root_of, step_state, swept_objects, swept_next}
-use Rattle.seq_model.proofs.Keys.{all_from_at, at, at_map, at_within, key_is}
+use Rattle.seq_model.proofs.Growths.{live_twice}
+use Rattle.seq_model.proofs.Handles.{IsRising, changed_rises, changed, lives, rises, root_of, step_state, swept_objects, swept_next}
+use Rattle.seq_model.proofs.Keys.{all_from_at, at, at_map, at_within}
 use Rattle.seq_model.proofs.Reached.{carries, reach_early, reach_here, reach_of, step_reached}
 use Rattle.seq_model.specs.Histories.{History, public, rendered}
 use Rattle.seq_model.specs.Life.{grown, has, is_root, live}
-use Rattle.seq_model.specs.State.{Object, Phase, Empty, Flight, Done, State, empty, flights, object_at, scene_object, scene_objects, ticket_in}
-use Rattle.seq_model.specs.Steps.{Past, after, is_reached, is_reached_by, next_place, start, step, swept, with_reach}
+use Rattle.seq_model.specs.State.{Object, State, flights, object_at, scene_object, scene_objects, ticket_in}
+use Rattle.seq_model.specs.Steps.{Past, after, is_reached, is_reached_by, next_place, step, swept, with_reach}
 use Rattle.seq_model.specs.declared.calls.Entry.{Entry}
 
 -- every frame in flight was reached by its own flight
@@ -84,15 +83,13 @@ flown_changed history e flown k o u found flies =
   where
     early : (u : ℕ) (hs : List ℕ) → at u (after history).reached ≡ Some hs → u < length history + 1
     early u hs there = (at_within u 1 (length history + 1) (after history).reached hs (carries history).within there).1
+
     nothing_at : (n : ℕ) → n ≡ length history + 1 → at n (after history).reached ≡ None
     nothing_at n is = by (at n (after history).reached) refl
       where
         by : (x : Option (List ℕ)) → at n (after history).reached ≡ x → x ≡ None
         by None there = refl
         by (Some hs) there = let less : n < length history + 1 = early n hs there in absurd (omega (arith, less, is))
-
-changed_rises : (past : Past) (e : Entry) → IsRising past.state → IsRising (changed past e)
-changed_rises past e rising = (change_rises (next_place past) e past.state (changed past e) (entry_changes (next_place past) e past.state) rising).0
 
 flown_first : IsFlown (after []).reached (after []).state
 unfolding after
@@ -105,7 +102,7 @@ flown history = grows_by (λ history. IsFlown (after history).reached (after his
     more history e now =
         subst (λ (past : Past). IsFlown past.reached past.state) (sym (after_more history e))
         (λ k o u found flies. flown_changed history e now k o u
-        (swept_was (step (after history) e) (changed (after history) e) k o (changed_rises (after history) e (rises history)) (ap (λ s. object_at s k) (sym (step_state (after history) e)) ∙ found)).0 flies)
+        (swept_was (step (after history) e) (changed (after history) e) k o (changed_rises (after history) e (rises history)).0 (ap (λ s. object_at s k) (sym (step_state (after history) e)) ∙ found)).0 flies)
 
 -- what is gone is in no flight
 any_of_tickets : (q : ℕ → Bool) (k u : ℕ) (o : Object) (es : List (ℕ × Object)) → at k es ≡ Some o → ticket_in o.phase ≡ Some u → q u ≡ true →
@@ -120,6 +117,7 @@ any_of_tickets q k u o (e ∷ es) found flies passes = by (is_at (nat_cmp k) e.0
         of : (y : Option ℕ) → ticket_in e.1.phase ≡ y → list_any q (filter_map (λ entry. ticket_in entry.1.phase) (e ∷ es)) ≡ true
         of None is = rw is rest
         of (Some v) is = rw is (or_right (q v) (list_any q (filter_map (λ entry. ticket_in entry.1.phase) es)) rest)
+
     by : (t : Bool) → is_at (nat_cmp k) e.0 ≡ t → (at k es ≡ Some o → list_any q (filter_map (λ entry. ticket_in entry.1.phase) es) ≡ true) →
         list_any q (filter_map (λ entry. ticket_in entry.1.phase) (e ∷ es)) ≡ true
     by true is rest =
@@ -163,6 +161,7 @@ flights_stay past s rising flown =
     each : (k : ℕ) (o : Object) → object_at s k ≡ Some o → (u : ℕ) → ticket_in o.phase ≡ Some u → lives (root_of past s) s.objects (k, o) ≡ true
     each k o found u flies =
         or_left (root_of past s (k, o)) _ (reached_is_root (public past.seen) (is_reached past.reached s) k o (flying_is_reached past.reached s k u o flown found flies))
+
     all : All (λ e. (u : ℕ) → ticket_in e.1.phase ≡ Some u → lives (root_of past s) s.objects e ≡ true) s.objects
     all = all_from_at (λ (e : ℕ × Object). (u : ℕ) → ticket_in e.1.phase ≡ Some u → lives (root_of past s) s.objects e ≡ true) 1 s.next s.objects rising each
 
@@ -191,7 +190,7 @@ is_swept history = grows_by (λ history. IsSwept (after history)) swept_first mo
     more history e now =
         subst IsSwept (sym (after_more history e))
         (subst (λ s. swept (step (after history) e).seen (step (after history) e).reached s ≡ s) (sym (step_state (after history) e))
-        (swept_twice (step (after history) e) (changed (after history) e) (changed_rises (after history) e (rises history)) (flown_changed history e (flown history))))
+        (swept_twice (step (after history) e) (changed (after history) e) (changed_rises (after history) e (rises history)).0 (flown_changed history e (flown history))))
 
 pub sweeps_once : (history : History) → swept history (after history).reached (after history).state ≡ (after history).state
 sweeps_once history = subst (λ seen. swept seen (after history).reached (after history).state ≡ (after history).state) (seen_is_history history) (is_swept history)

@@ -1,6 +1,6 @@
 -- What the table of kinds says of ranks: what an object may name stands lower than it.
 use Rattle.std.proofs.Common.{ℕ, ◌≡◌, ◌<◌, ◌∙◌, ◌⊎◌, inl, inr, Bool, true, false, not, List, [], ◌∷◌, Option, Some, None, refl, sym, ap, subst}
-use Rattle.std.specs.Prelude.{cond, ◌||◌, ◌&&◌, nat_lt}
+use Rattle.std.specs.Prelude.{◌||◌, ◌&&◌, nat_lt}
 use Rattle.std.specs.List.{list_all}
 use Rattle.std.specs.Map.{lookup}
 use Rattle.std.specs.Option.{MatchOption, is_some}
@@ -93,6 +93,7 @@ row_is_lower kind name row found = by (is_array kind) refl
     none (Array elem) is = refl
     none CameraOrthographic is = absurd cc
     none _ is = absurd cc
+
     by : (t : Bool) → is_array kind ≡ t → row_is_below (rank_of kind) (name, row) ≡ true
     by false is = found_passes (λ row. row_is_below (rank_of kind) (name, row)) (bytes_eq name) (rows_of kind) row (rows_are_lower kind is) found
     by true is = let nothing : None ≡ Some row = sym (none kind is) ∙ found in absurd cc
@@ -104,10 +105,12 @@ takes_lower kind named name row found takes =
   where
     both : (type_is_below (rank_of kind) row.ty ≡ true) × (arrays_are_below (rank_of kind) row.elem ≡ true)
     both = and_parts (type_is_below (rank_of kind) row.ty) (arrays_are_below (rank_of kind) row.elem) (row_is_lower kind name row found)
+
     array_type : (kind : Kind) → is_array kind ≡ true → is_same_type (type_of_kind kind) ty.Array1D ≡ true
     array_type (Array elem) is = refl
     array_type CameraOrthographic is = absurd cc
     array_type _ is = absurd cc
+
     by : (elem : Option DataType) → row.elem ≡ elem → (t : Bool) → is_array named ≡ t → rank_of named < rank_of kind
     by (Some elem) is t array =
         let kind_is : named ≡ Array elem = subst (λ (x : Option DataType). MatchOption x (Unit {0}) (λ elem. named ≡ Array elem)) is takes.1 in
@@ -126,6 +129,7 @@ element_lower elem named may has = by (is_array named) refl (or_cases (not (is_e
     array_elem (Array e) is = refl
     array_elem CameraOrthographic is = absurd cc
     array_elem _ is = absurd cc
+
     by : (t : Bool) → is_array named ≡ t → (not (is_element_type elem) ≡ true) ⊎ (type_is_below (rank_of (Array elem)) elem ≡ true) → rank_of named < rank_of (Array elem)
     by true is cases = let wrong : false ≡ true = sym (array_elem named is) ∙ ap is_element_type has ∙ may in absurd cc
     by false is (inl not_may) = let wrong : false ≡ true = sym (not-true (is_element_type elem) not_may) ∙ may in absurd cc

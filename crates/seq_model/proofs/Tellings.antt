@@ -1,43 +1,38 @@
 -- Each captured array is told once: not before it is gone, and at the latest with the close.
 use Rattle.std.proofs.Common.{ℕ, ◌+◌, ◌==◌, ◌≡◌, ◌<◌, ◌≤◌, ◌∙◌, ◌⊎◌, inl, inr, Bool, true, false, not, List, [], ◌∷◌, ◌++◌, Option, Some, None, refl, sym, ap, subst, append_assoc, arith}
 use Rattle.std.specs.Prelude.{cond, count_by, ◌&&◌, fold}
-use Rattle.std.specs.List.{filter, filter_map, list_any, sum_by}
+use Rattle.std.specs.List.{filter_map, list_any}
 use Rattle.std.specs.Map.{keys_of}
 use Rattle.std.specs.Option.{is_some, option_map, option_or, option_to_list}
 use Rattle.std.specs.BTreeMap.{is_at}
 use Rattle.std.specs.Ordering.{nat_cmp}
-use Rattle.std.proofs.lemmas.Bool.{cases_eq, cases_lt, cond-true, cond-false, eq-eqb, eqb-true, ne_eqb, not-true, and_parts}
-use Rattle.std.proofs.lemmas.Bool.Decides.{nat_tests}
+use Rattle.std.proofs.lemmas.Bool.{cases_eq, cases_lt, cond-true, cond-false, eq-eqb, eqb-true, ne_eqb, and_parts}
 use Rattle.std.proofs.lemmas.List.{append-nil}
 use Rattle.std.proofs.lemmas.List.Sums.{sum_by-append, sum_by-cons, sum_by_push}
 use Rattle.std.proofs.lemmas.Map.Entries.{option_filter}
 use Rattle.std.proofs.lemmas.Map.Made.{is_some-lookup}
 use Rattle.dev_types.specs.Refusals.{status_of}
-use Rattle.dev_types.specs.declared.data_types.DataType.{DataType}
 use Rattle.dev_types.specs.declared.handles.Origin.{Origin}
 use Rattle.dev_types.specs.declared.handles.Origin.TheVariants.{Captured, Shared, Managed}
 use Rattle.dev_types.specs.declared.notices.Notice.{Notice}
-use Rattle.dev_types.specs.declared.notices.Notice.TheVariants.{Deleted, LetGo, Told}
-use Rattle.dev_types.specs.declared.refusals.Refused.{Refused}
+use Rattle.dev_types.specs.declared.notices.Notice.TheVariants.{Told}
 use Rattle.seq_model.proofs.Afters.{after_more, grows_by}
-use Rattle.seq_model.proofs.Came.{end_is, stays_gone}
+use Rattle.seq_model.proofs.Came.{stop_objects, end_is, stays_gone}
 use Rattle.seq_model.proofs.Changes.{AreLike, Change, Quiet, Making, Rendering, Discarding, Finishing, Leaving, Closing, IsQuiet, captures, changed_here, entry_changes, is_captured, is_captured_array, others_unchanged}
 use Rattle.seq_model.proofs.Creations.{made_handle}
-use Rattle.seq_model.proofs.Handles.{IsRising, change_rises, changed, lives, rises, root_of, step_rises, step_state, sweep_rises, swept_next, swept_objects}
+use Rattle.seq_model.proofs.Handles.{IsRising, changed_rises, changed, lives, rises, root_of, step_rises, step_state, swept_next, swept_objects}
 use Rattle.seq_model.proofs.Keys.{RisesWithin, at, at_append, at_filter, at_map, at_within, key_here, key_is, key_is_other, nothing_outside, rises_filtered}
-use Rattle.seq_model.proofs.Prefixes.{in_place, prefix_is_legal}
+use Rattle.seq_model.proofs.Prefixes.{prefix_is_legal}
 use Rattle.seq_model.specs.Ends.{is_capturing, is_deleting}
 use Rattle.seq_model.specs.Histories.{History}
-use Rattle.seq_model.specs.Legal.{Legal, IsInPlace}
-use Rattle.seq_model.specs.Life.{grown, has, live}
+use Rattle.seq_model.specs.Legal.{Legal}
+use Rattle.seq_model.specs.Life.{has}
 use Rattle.seq_model.specs.State.{ArrayState, Object, Phase, Empty, Flight, Done, State, changed_at, object_at, with_object}
-use Rattle.seq_model.specs.Steps.{Past, after, change, discard, end_flight, end_flights, next_place, set_phase, start, step, stop, swept}
+use Rattle.seq_model.specs.Steps.{Past, after, change, discard, end_flight, end_flights, next_place, set_phase, start, step}
 use Rattle.seq_model.specs.Told.{end_of_array, end_of_object, gone, removed, source_of, status_at, told, told_by, told_from}
-use Rattle.seq_model.specs.declared.calls.Call.{Call}
 use Rattle.seq_model.specs.declared.calls.Call.TheVariants.{NewArray}
 use Rattle.seq_model.specs.declared.calls.Entry.{Entry}
 use Rattle.seq_model.specs.declared.calls.Entry.TheVariants.{Called, Finished, Left, Closed}
-use Rattle.seq_model.specs.declared.calls.Reply.{Reply}
 use Rattle.seq_model.specs.declared.calls.Reply.TheVariants as reply
 
 -- how many deleters of h run
@@ -68,6 +63,7 @@ ends_here h e same = by e.1.array refl
     of a (Captured user) is = rw is (cond-true (e.0 == h) 1 0 (eq-eqb e.0 h same))
     of a (Shared user) is = rw is refl
     of a Managed is = rw is refl
+
     by : (x : Option ArrayState) → e.1.array ≡ x → ended h (end_of_object e) ≡ cond (is_captured_array e.1.array) 1 0
     by None is = rw is refl
     by (Some a) is = rw is (of a a.origin refl)
@@ -80,6 +76,7 @@ ends_elsewhere h e apart = by e.1.array refl
     of a (Captured user) = cond-false (e.0 == h) 1 0 (ne_eqb e.0 h apart)
     of a (Shared user) = refl
     of a Managed = refl
+
     by : (x : Option ArrayState) → e.1.array ≡ x → ended h (end_of_object e) ≡ 0
     by None is = rw is refl
     by (Some a) is = rw is (of a a.origin)
@@ -146,22 +143,19 @@ parts p (Some o) y is = by (p o) refl
         let none : y ≡ None = is ∙ ap (λ t. cond t (Some o) None) test in
         subst (λ y. weight (option_filter (λ o. not (is_some y)) (Some o)) + weight y ≡ weight (Some o)) (sym none) (let none : weight (Some o) + 0 ≡ weight (Some o) = omega arith in none)
 
-changed_rises : (past : Past) (e : Entry) → IsRising past.state → IsRising (changed past e)
-changed_rises past e rising = (change_rises (next_place past) e past.state (changed past e) (entry_changes (next_place past) e past.state) rising).0
-
 at_step : (past : Past) (e : Entry) (h : ℕ) → IsRising past.state →
     object_at (step past e).state h ≡ option_filter (λ o. lives (root_of (step past e) (changed past e)) (changed past e).objects (h, o)) (object_at (changed past e) h)
 at_step past e h rising =
     ap (λ s. object_at s h) (step_state past e) ∙ ap (at h) (swept_objects (step past e) (changed past e))
-    ∙ at_filter (lives (root_of (step past e) (changed past e)) (changed past e).objects) h 1 (changed past e).next (changed past e).objects (changed_rises past e rising)
+    ∙ at_filter (lives (root_of (step past e) (changed past e)) (changed past e).objects) h 1 (changed past e).next (changed past e).objects (changed_rises past e rising).0
 
 -- what a step tells and what it leaves
 told_and_left : (past : Past) (e : Entry) (h : ℕ) → IsRising past.state →
     deleted h (filter_map end_of_object (gone (changed past e) (step past e).state)) + weight (object_at (step past e).state h) ≡ weight (object_at (changed past e) h)
 told_and_left past e h rising =
     ap (λ n. n + weight (object_at (step past e).state h))
-    (deleted_of_ends h 1 (changed past e).next (gone (changed past e) (step past e).state) (rises_filtered (λ entry. not (has entry.0 (keys_of (step past e).state.objects))) 1 (changed past e).next (changed past e).objects (changed_rises past e rising))
-    ∙ ap weight (at_gone h (changed past e) (step past e).state (changed_rises past e rising)))
+    (deleted_of_ends h 1 (changed past e).next (gone (changed past e) (step past e).state) (rises_filtered (λ entry. not (has entry.0 (keys_of (step past e).state.objects))) 1 (changed past e).next (changed past e).objects (changed_rises past e rising).0)
+    ∙ ap weight (at_gone h (changed past e) (step past e).state (changed_rises past e rising).0))
     ∙ parts (λ o. lives (root_of (step past e) (changed past e)) (changed past e).objects (h, o)) (object_at (changed past e) h) (object_at (step past e).state h) (at_step past e h rising)
 
 -- what a change makes of the weight at a handle
@@ -183,11 +177,6 @@ set_weight k h phase s = by (cases_eq h k)
         subst (λ h. weight (object_at (changed_at k (set_phase phase) s) h) ≡ weight (object_at s h)) (sym same)
         (ap weight (changed_here k (set_phase phase) s) ∙ mapped_weight (set_phase phase) (λ o. refl) (object_at s k))
     by (inr apart) = ap weight (others_unchanged k h (set_phase phase) s apart)
-
-stop_objects : (phase : Phase) (s : State) → (stop phase s).objects ≡ s.objects
-stop_objects (Flight t) s = refl
-stop_objects Empty s = refl
-stop_objects (Done t) s = refl
 
 discard_weight : (k h : ℕ) (s : State) → weight (object_at (discard k s) h) ≡ weight (object_at s h)
 unfolding discard
@@ -216,11 +205,14 @@ made_weight e s u o h takes quiet rising = by (cases_eq h u.next)
   where
     both : object_at (with_object o u) h ≡ option_or (object_at u h) (at h ((u.next, o) ∷ []))
     both = at_append h u.objects ((u.next, o) ∷ [])
+
     same_weight : weight (object_at u h) ≡ weight (object_at s h)
     same_weight = like_weight (object_at s h) (object_at u h) (quiet.like h)
+
     beside : (x : Option Object) → option_or x None ≡ x
     beside None = refl
     beside (Some x) = refl
+
     by : (h ≡ u.next) ⊎ (h ≡ u.next → ⊥) → weight (object_at (with_object o u) h) ≡ weight (object_at s h) + newly s e h
     by (inl same) =
         let none : object_at u h ≡ None = nothing_outside h 1 u.next u.objects rising (λ _ high. omega (arith, high, same)) in
@@ -228,7 +220,9 @@ made_weight e s u o h takes quiet rising = by (cases_eq h u.next)
         let now : weight (object_at (with_object o u) h) ≡ cond (is_captured o) 1 0 = ap weight (both ∙ ap (λ x. option_or x (at h ((u.next, o) ∷ []))) none ∙ last) in
         let before : weight (object_at s h) ≡ 0 = sym same_weight ∙ ap weight none in
         let test : (s.next == h) ≡ true = eq-eqb s.next h (sym quiet.next ∙ sym same) in
-        let new : newly s e h ≡ cond (is_captured o) 1 0 = ap (λ t. cond (captures e && t) 1 0) test ∙ ap (λ t. cond (t && true) 1 0) takes ∙ of (is_captured o) in
+        let tested : newly s e h ≡ cond {A = ℕ} (captures e && true) 1 0 = ap (λ t. cond (captures e && t) 1 0) test in
+        let taken : cond {A = ℕ} (captures e && true) 1 0 ≡ cond {A = ℕ} (is_captured o && true) 1 0 = ap (λ t. cond (t && true) 1 0) takes in
+        let new : newly s e h ≡ cond (is_captured o) 1 0 = tested ∙ taken ∙ of (is_captured o) in
         omega (arith, now, before, new)
       where
         of : (t : Bool) → cond {A = ℕ} (t && true) 1 0 ≡ cond {A = ℕ} t 1 0
@@ -361,10 +355,13 @@ bounded_more h history e now = by (captures e && ((after history).state.next == 
   where
     grown_total : total (history ++ e ∷ []) h ≡ total history h + newly (after history).state e h
     grown_total = total_more history e h
+
     next_is : (after (history ++ e ∷ [])).state.next ≡ (step (after history) e).state.next
     next_is = ap (λ (past : Past). past.state.next) (after_more history e)
+
     next_up : (after history).state.next ≤ (step (after history) e).state.next
     next_up = (step_rises (after history) e (rises history)).1
+
     by : (t : Bool) → (captures e && ((after history).state.next == h)) ≡ t → IsBounded h (history ++ e ∷ [])
     by true is =
         let both : (captures e ≡ true) × (((after history).state.next == h) ≡ true) = and_parts (captures e) ((after history).state.next == h) is in
@@ -374,9 +371,10 @@ bounded_more h history e now = by (captures e && ((after history).state.next == 
         let up : (after history).state.next + 1 ≤ (step (after history) e).state.next = step_takes (after history) e both.0 in
         (omega (arith, grown_total, none, one), λ low. absurd (omega (arith, low, next_is, up, here)))
     by false is =
-        let none : newly (after history).state e h ≡ 0 = ap (λ t. cond {A = ℕ} t 1 0) is in
-        (omega (arith, grown_total, none, now.0),
-        λ low. let nothing : total history h ≡ 0 = now.1 (omega (arith, low, next_is, next_up)) in omega (arith, grown_total, none, nothing))
+        let none : newly (after history).state e h ≡ 0 = ap (λ t. cond {A = ℕ} t 1 0) is in (
+          omega (arith, grown_total, none, now.0),
+          λ low. let nothing : total history h ≡ 0 = now.1 (omega (arith, low, next_is, next_up)) in omega (arith, grown_total, none, nothing),
+        )
 
 bounded : (h : ℕ) (history : History) → IsBounded h history
 bounded h history = grows_by (IsBounded h) (omega (arith, total_first h), λ low. total_first h) (bounded_more h) history
@@ -402,11 +400,11 @@ told_now_is_gone : (past : Past) (e : Entry) (h : ℕ) → IsRising past.state �
 told_now_is_gone past e h rising open_ more =
     let is : deleted h (told_by past e) ≡ weight (option_filter (λ o. not (is_some (object_at (step past e).state h))) (object_at (changed past e) h)) =
     deleted_by past e h ∙ ap (λ es. deleted h (filter_map end_of_object es)) (removed_is past e open_)
-    ∙ deleted_of_ends h 1 (changed past e).next (gone (changed past e) (step past e).state) (rises_filtered (λ entry. not (has entry.0 (keys_of (step past e).state.objects))) 1 (changed past e).next (changed past e).objects (changed_rises past e rising))
-    ∙ ap weight (at_gone h (changed past e) (step past e).state (changed_rises past e rising)) in
+    ∙ deleted_of_ends h 1 (changed past e).next (gone (changed past e) (step past e).state) (rises_filtered (λ entry. not (has entry.0 (keys_of (step past e).state.objects))) 1 (changed past e).next (changed past e).objects (changed_rises past e rising).0)
+    ∙ ap weight (at_gone h (changed past e) (step past e).state (changed_rises past e rising).0) in
     let both : ((o : Object) × (object_at (changed past e) h ≡ Some o)) × (object_at (step past e).state h ≡ None) =
     gone_now (object_at (changed past e) h) (object_at (step past e).state h) (omega (arith, more, is)) in
-    let within : (1 ≤ h) × (h < (changed past e).next) = at_within h 1 (changed past e).next (changed past e).objects both.0.0 (changed_rises past e rising) both.0.1 in
+    let within : (1 ≤ h) × (h < (changed past e).next) = at_within h 1 (changed past e).next (changed past e).objects both.0.0 (changed_rises past e rising).0 both.0.1 in
     let same : (step past e).state.next ≡ (changed past e).next = ap (λ (s : State). s.next) (step_state past e) ∙ (swept_next (step past e) (changed past e)).0 in
     (omega (arith, within.1, same), both.1)
 

@@ -25,7 +25,7 @@ bytes_for_array past h bytes =
 abbrev pub bytes_for_parameter : Past → ℕ → ℕ → List ℕ → List ℕ
 bytes_for_parameter past h number bytes =
     option_map_or (λ loan. (cleaned past (content_of_loan loan bytes)).bytes)
-        (option_and_then (λ o. parameter_loan number o.parameter_loans) (object_at past.state h)) bytes
+    (option_and_then (λ o. parameter_loan number o.parameter_loans) (object_at past.state h)) bytes
 
 -- an unmap of a loan that is out, as it is entered: with these bytes
 unfoldable pub entered : Past → Call → Call

@@ -1,11 +1,13 @@
 pub mod Answers
 pub mod Builds
 pub mod Contents
+pub mod Deaths
 pub mod Ends
 pub mod Examples
 pub mod Extensions
 pub mod Histories
 pub mod Legal
+pub mod Lending
 pub mod Life
 pub mod Pictures
 pub mod Refusals

@@ -1,6 +1,6 @@
 -- What holds of the objects of every legal history: their values have the types of their parameters, and all that they name is there, as the
 -- tables ask for it.
-use Rattle.std.specs.Prelude.{◌≡◌, ℕ, List, All, Option, Some, None, IsTrue, false}
+use Rattle.std.specs.Prelude.{◌≡◌, ℕ, List, All, Option, Some, None, IsTrue}
 use Rattle.std.specs.Option.{IsSomeAnd, MatchOption}
 use Rattle.dev_types.specs.DataTypes.{is_element_type}
 use Rattle.dev_types.specs.ValueBytes.{type_of}

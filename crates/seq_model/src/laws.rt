@@ -1,24 +1,34 @@
 //! What holds of every history: each law is the contract of a function that does nothing.
-ghost use Rattle.std.specs.Prelude.{◌+◌, count_by, List, IsTrue, Bool, ◌≡◌, ℕ, ◌≤◌, ◌<◌, All, length, None, ◌++◌, ◌∷◌, [], Some};
+ghost use Rattle.std.specs.Prelude.{◌+◌, map, false, IsSomeAnd, count_by, List, IsTrue, Bool, ◌≡◌, ℕ, ◌≤◌, ◌<◌, All, length, None, ◌++◌, ◌∷◌, [], Some};
 ghost use Rattle.std.specs.BTreeMap.{is_at};
 ghost use Rattle.std.specs.List.Sorted.{IsStrictlyIncreasing};
 ghost use Rattle.std.specs.Map.{keys_of, lookup};
 ghost use Rattle.std.specs.Ordering.{nat_cmp};
 ghost use Rattle.dev_types.specs.declared.data_types.DataType.{DataType};
+ghost use Rattle.dev_types.specs.declared.handles.Channel.{Channel};
 ghost use Rattle.dev_types.specs.declared.refusals.Refused.{Refused};
+ghost use Rattle.kind_tables.specs.Ranges.{broken_parameter};
+ghost use Rattle.kind_tables.specs.Ranks.{rank_of};
+ghost use Rattle.kind_tables.specs.Scenes.{lights_of, primitives_of};
+ghost use Rattle.kind_tables.specs.WalkRanks.{AreRanked};
+ghost use Rattle.kind_tables.specs.WalkRefusals.{missing_parameter, surface_count};
 ghost use Rattle.kind_tables.specs.Walks.{visited, walk};
+ghost use Rattle.seq_model.specs.Deaths.{HoldsItself, changed_by};
 ghost use Rattle.seq_model.specs.Ends.{is_capturing, is_deleting};
 ghost use Rattle.seq_model.specs.Extensions.{let_follow, readings_of};
 ghost use Rattle.seq_model.specs.Histories.{History, frame_at};
 ghost use Rattle.seq_model.specs.Legal.{IsNext, Legal};
-ghost use Rattle.seq_model.specs.Life.{has};
+ghost use Rattle.seq_model.specs.Lending.{WasLent};
+ghost use Rattle.seq_model.specs.Life.{has, names_of, times};
 ghost use Rattle.seq_model.specs.Pictures.{state_before};
-ghost use Rattle.seq_model.specs.State.{Object, object_at, scene_objects};
-ghost use Rattle.seq_model.specs.Steps.{after, step, swept};
+ghost use Rattle.seq_model.specs.Refusals.{is_same_channel};
+ghost use Rattle.seq_model.specs.Soundness.{AllSound};
+ghost use Rattle.seq_model.specs.State.{Object, flights, object_at, scene_objects};
+ghost use Rattle.seq_model.specs.Steps.{after, next_place, step, swept};
 ghost use Rattle.seq_model.specs.Tickets.{ticket_of};
 ghost use Rattle.seq_model.specs.Told.{told};
 ghost use Rattle.seq_model.specs.declared.calls.Call.{Call};
-ghost use Rattle.seq_model.specs.declared.calls.Call.TheVariants.{DiscardFrame, FrameReady, GetProperty, ObjectInfo, ParameterInfo, Subtypes};
+ghost use Rattle.seq_model.specs.declared.calls.Call.TheVariants.{DiscardFrame, FrameReady, GetProperty, ObjectInfo, ParameterInfo, RenderFrame, Subtypes};
 ghost use Rattle.seq_model.specs.declared.calls.Entry.{Entry};
 ghost use Rattle.seq_model.specs.declared.calls.Entry.TheVariants.{Called, Closed, Finished};
 ghost use Rattle.seq_model.specs.declared.calls.Reply.{Reply};
@@ -152,8 +162,61 @@ pub fn deleters_run_once()
         count_by (is_deleting h) (told (history ++ Closed ∷ [])) ≡ count_by (is_capturing h) (history ++ Closed ∷ []) }
 {}
 
-/// TEMP
-#[tactic(auto, using(crate::proofs::SoundSteps::after_more))]
-pub fn sound_temp()
-    ensures { (history : History) (e : Entry) → after (history ++ e ∷ []) ≡ step (after history) e }
+/// All that an object of a legal history has fits: values have the types of their parameters, and what is named is there, as the tables ask for
+/// it.
+#[tactic(auto, using(crate::proofs::SoundHistories::legal_is_sound))]
+pub fn legal_states_are_sound()
+    ensures { (history : History) → Legal history → AllSound (after history).state }
+{}
+
+/// What an object of a legal history names is there, and stands lower; so each walk of its scenes ends.
+pub fn legal_states_are_ranked()
+    ensures names { (history : History) → Legal history →
+        All (λ entry. All (λ h. IsSomeAnd (object_at (after history).state h) (λ named. rank_of named.kind < rank_of entry.1.kind)) (names_of entry.1)) (after history).state.objects }
+    ensures scenes { (history : History) → Legal history → AreRanked (scene_objects (after history).state) }
+{}
+
+/// What a live object names lives, and a set of objects each of which is a root, or is named by one of the set, lives: so an object goes just
+/// where no chain of names leads to it from a root. The states are those in which an entry of a legal history has changed what it changes.
+pub fn deaths_are_exact()
+    ensures closed { (history : History) (e : Entry) (h k : ℕ) (o p : Object) → Legal (history ++ e ∷ []) →
+        object_at (after (history ++ e ∷ [])).state h ≡ Some o → IsTrue (has k (names_of o)) → object_at (changed_by history e) k ≡ Some p →
+        object_at (after (history ++ e ∷ [])).state k ≡ Some p }
+    ensures held_up { (history : History) (e : Entry) (members : List ℕ) → Legal (history ++ e ∷ []) → HoldsItself history e members →
+        (h : ℕ) → IsTrue (has h members) → IsSomeAnd (object_at (changed_by history e) h) (λ o. object_at (after (history ++ e ∷ [])).state h ≡ Some o) }
+{}
+
+/// Each ticket stands once among the flights of a history, and is the place of a render before its end.
+pub fn tickets_stand_once()
+    ensures once { (history : History) (t : ℕ) → times t (flights (after history).state) ≤ 1 }
+    ensures places { (history : History) (t : ℕ) → IsTrue (has t (flights (after history).state)) → t < next_place (after history) }
+{}
+
+/// All that the walk of a granted render visits is not mapped, has what a picture needs, and is in range, and the walk keeps to the limits.
+pub fn granted_renders_are_sound()
+    ensures unmapped { (history : History) (actor h : ℕ) → Legal (history ++ Called actor (RenderFrame h) reply.Done ∷ []) →
+        All (λ v. v.object.mapped ≡ false) (walk (scene_objects (after history).state) h) }
+    ensures complete { (history : History) (actor h : ℕ) → Legal (history ++ Called actor (RenderFrame h) reply.Done ∷ []) →
+        All (λ v. missing_parameter v.object ≡ None) (walk (scene_objects (after history).state) h) }
+    ensures in_range { (history : History) (actor h : ℕ) → Legal (history ++ Called actor (RenderFrame h) reply.Done ∷ []) →
+        All (λ v. broken_parameter (scene_objects (after history).state) v ≡ None) (walk (scene_objects (after history).state) h) }
+    ensures limits { (history : History) (actor h : ℕ) → Legal (history ++ Called actor (RenderFrame h) reply.Done ∷ []) →
+        (surface_count (walk (scene_objects (after history).state) h) ≤ 65536)
+        × (length (lights_of (walk (scene_objects (after history).state) h)) ≤ 256)
+        × (length (primitives_of (scene_objects (after history).state) (walk (scene_objects (after history).state) h)) ≤ 1048576) }
+{}
+
+/// What an application holds of an object was lent to it by the entries at the places of its loans.
+pub fn loans_were_lent()
+    ensures { (history : History) (h : ℕ) (o : Object) → object_at (after history).state h ≡ Some o → WasLent history h o }
+{}
+
+/// The numbers of an object's loans rise, and are places of the past; and no channel of a frame is mapped twice at a time.
+pub fn loans_stand_once()
+    ensures parameters { (history : History) (h : ℕ) (o : Object) → object_at (after history).state h ≡ Some o →
+        IsStrictlyIncreasing (map (λ loan. loan.number) o.parameter_loans) × All (λ n. n < next_place (after history)) (map (λ loan. loan.number) o.parameter_loans) }
+    ensures channels { (history : History) (h : ℕ) (o : Object) → object_at (after history).state h ≡ Some o →
+        IsStrictlyIncreasing (map (λ m. m.1) o.channels) × All (λ n. n < next_place (after history)) (map (λ m. m.1) o.channels) }
+    ensures one_a_channel { (history : History) (h : ℕ) (o : Object) (c : Channel) → Legal history → object_at (after history).state h ≡ Some o →
+        count_by (λ m. is_same_channel m.0 c) o.channels ≤ 1 }
 {}
