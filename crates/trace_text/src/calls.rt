@@ -42,19 +42,33 @@ pub enum TraceCall {
         origin: Origin,
         data: ArrayData,
     },
-    Retain { object: Name },
-    Release { object: Name },
+    Retain {
+        object: Name,
+    },
+    Release {
+        object: Name,
+    },
     Set {
         object: Name,
         name: Name,
         value: SetValue,
     },
-    Unset { object: Name, name: Name },
-    UnsetAll { object: Name },
-    Commit { object: Name },
+    Unset {
+        object: Name,
+        name: Name,
+    },
+    UnsetAll {
+        object: Name,
+    },
+    Commit {
+        object: Name,
+    },
     /// Maps an array, and writes elements. What follows up to the matching `EndLoan` is done whether or
     /// not the loan was granted.
-    WithArray { array: Name, write: Items<Write> },
+    WithArray {
+        array: Name,
+        write: Items<Write>,
+    },
     /// Maps a new array for a parameter, and writes elements; else like `WithArray`.
     WithParam {
         object: Name,
@@ -64,12 +78,22 @@ pub enum TraceCall {
         write: Items<Write>,
     },
     /// Maps a channel of a frame; else like `WithArray`.
-    WithFrame { frame: Name, channel: Channel },
+    WithFrame {
+        frame: Name,
+        channel: Channel,
+    },
     /// Ends the innermost loan that is open, by unmapping it where it was granted.
     EndLoan,
-    Render { frame: Name },
-    Discard { frame: Name },
-    Ready { frame: Name, wait: bool },
+    Render {
+        frame: Name,
+    },
+    Discard {
+        frame: Name,
+    },
+    Ready {
+        frame: Name,
+        wait: bool,
+    },
     Query(Query),
 }
 
@@ -77,9 +101,17 @@ pub enum TraceCall {
 #[derive(Debug, Drop)]
 pub enum Query {
     /// A property of an object, or of the device where there is none.
-    Property { object: Option<Name>, name: Name },
-    Subtypes { ty: DataType },
-    ObjectInfo { ty: DataType, subtype: Name },
+    Property {
+        object: Option<Name>,
+        name: Name,
+    },
+    Subtypes {
+        ty: DataType,
+    },
+    ObjectInfo {
+        ty: DataType,
+        subtype: Name,
+    },
     ParameterInfo {
         ty: DataType,
         subtype: Name,

@@ -27,13 +27,21 @@ pub(crate) fn component_count(ty: DataType) -> u64
 ///
 /// # Errors
 /// `NoMemory` where there was none for the value's bytes.
-pub fn value_of_numbers(alloc: Global, ty: DataType, numbers: &[i128]) -> Result<Option<Value>, NoMemory>
+pub fn value_of_numbers(
+    alloc: Global,
+    ty: DataType,
+    numbers: &[i128],
+) -> Result<Option<Value>, NoMemory>
     ensures { IfOk result (λ value. value ≡ value_of_numbers ty numbers.now) }
 {
     Ok(value(alloc, ty, numbers)?)
 }
 
-pub(crate) fn value(alloc: Global, ty: DataType, numbers: &[i128]) -> Result<Option<Value>, AllocError>
+pub(crate) fn value(
+    alloc: Global,
+    ty: DataType,
+    numbers: &[i128],
+) -> Result<Option<Value>, AllocError>
     ensures { IfOk result (λ value. value ≡ value_of_numbers ty numbers.now) }
 {
     let count = component_count(ty);

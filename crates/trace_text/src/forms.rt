@@ -95,7 +95,9 @@ fn new_array(alloc: Global, value: &Json) -> Result<Option<TraceCall>, AllocErro
 {
     if !has_only(
         value,
-        &["op", "label", "elem", "count", "stride", "origin", "user", "data"],
+        &[
+            "op", "label", "elem", "count", "stride", "origin", "user", "data",
+        ],
     ) {
         return Ok(None);
     }

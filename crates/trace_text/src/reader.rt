@@ -231,7 +231,14 @@ fn read_calls(
         let (op, call) = read_call(alloc, spot, loans_left, value, before)?;
         calls.push(call)?;
         if op.is_loan() {
-            read_calls(alloc, spot, loans_left - 1, items_at(value, "calls"), before, calls)?;
+            read_calls(
+                alloc,
+                spot,
+                loans_left - 1,
+                items_at(value, "calls"),
+                before,
+                calls,
+            )?;
             calls.push(TraceCall::EndLoan)?;
         }
     }
@@ -291,7 +298,9 @@ fn bind(call: &TraceCall, before: &mut Before) -> Result<bool, AllocError>
     ensures bound { OnOk result (before.new ≡ record { calls = before.old.calls; of_caller = before.old.of_caller; labels = with_label (bound_by call.now) before.old.labels }) }
 {
     match call {
-        TraceCall::New { label, .. } | TraceCall::NewArray { label, .. } => before.bind(label.copied()),
+        TraceCall::New { label, .. } | TraceCall::NewArray { label, .. } => before.bind(
+            label.copied(),
+        ),
         _ => Ok(true),
     }
 }

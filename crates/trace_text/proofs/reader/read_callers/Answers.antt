@@ -9,7 +9,7 @@ returns-in_err-read_caller-clause-places c =
     rw (handed_on c.from_residual-in_err-read_caller.result c.in_err-read_caller.field-0.0 c.from_residual-in_err-read_caller.ensures)
     (tells_more _ _ c.in_err-read_caller.field-0.0
     (λ fault is. rest-broken (caller_places c.args.version c.args.phase) c.args.version c.args.values.now c.loop-value.value-index c.loop-value.caller c.value-item.result
-        c.loop-value.before fault _ c.loop-value-test.true c.value-item.is is c.loop-value.invariant.places)
+    c.loop-value.before fault _ c.loop-value-test.true c.value-item.is is c.loop-value.invariant.places)
     c.in_err-read_caller.ensures.places)
 
 pub loop-value-preserved : goal.loop-value-preserved

@@ -17,7 +17,7 @@ returns-in_err-callers-clause-places c =
     rw (handed_on c.from_residual.result c.in_err-callers.field-0.0 c.from_residual.ensures)
     (tells_more _ _ c.in_err-callers.field-0.0
     (λ fault is. checked-phase c.args.version c.args.before.now c.args.number (view c.args.value.now) _ (sym c.is_phase.ensures ∙ c.if-not-is_phase.false)
-        ∙ ap (λ ds. checked c.args.version c.args.before.now (flat_map (caller_places c.args.version c.args.number) (numbered 0 ds))) (sym c.items_at.ensures) ∙ is)
+    ∙ ap (λ ds. checked c.args.version c.args.before.now (flat_map (caller_places c.args.version c.args.number) (numbered 0 ds))) (sym c.items_at.ensures) ∙ is)
     c.in_err-callers.ensures.places)
 
 pub returns-clause-places : goal.returns-clause-places

@@ -10,7 +10,7 @@ use Rattle.trace_text.proofs.reader.read_root.Goals as goal
 pub returns : goal.returns
 returns c =
     let parts : root_of (view c.args.root.now) ≡ Some (c.in-Some-Some.version, map view c.in-Some-Some.phases.now) =
-        root_of-parts (view c.args.root.now) c.in-Some-Some.version (map view c.in-Some-Some.phases.now) (sym c.version.ensures ∙ c.in-Some-Some.is-0)
-        (sym c.phases.ensures ∙ ap (option_map (λ values. map view values.now)) c.in-Some-Some.is-1) in
+    root_of-parts (view c.args.root.now) c.in-Some-Some.version (map view c.in-Some-Some.phases.now) (sym c.version.ensures ∙ c.in-Some-Some.is-0)
+    (sym c.phases.ensures ∙ ap (option_map (λ values. map view values.now)) c.in-Some-Some.is-1) in
     let Answers : Option (Version × List Data) → Type 0 = λ root. IsAnswerTo (trace_of_root root) c.read_phases.result in
     subst Answers (sym parts) c.read_phases.ensures
