@@ -1,0 +1,3 @@
+pub mod ElementFacts
+pub mod ListFacts
+pub mod StartFacts
