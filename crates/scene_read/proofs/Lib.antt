@@ -1,0 +1,4 @@
+pub mod ElementFacts
+pub mod ListFacts
+pub mod ShownFacts
+pub mod StartFacts

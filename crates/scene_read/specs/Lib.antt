@@ -1,0 +1,4 @@
+pub mod Reading
+pub mod Shaped
+pub mod Shown
+pub mod Starts
