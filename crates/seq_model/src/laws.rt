@@ -232,3 +232,8 @@ pub fn public_counts_move()
 pub fn told_is_stepwise()
     ensures { (history : History) (e : Entry) → told (history ++ e ∷ []) ≡ told history ++ told_by (after history) e }
 {}
+
+/// While a history may go on, an object that is gone has no public reference.
+pub fn what_is_gone_is_not_held()
+    ensures { (history : History) (further : Entry) (h : ℕ) → Legal (history ++ further ∷ []) → object_at (after history).state h ≡ None → public history h ≡ 0 }
+{}
