@@ -1,14 +1,13 @@
 -- What is held is there: an object that is gone has no public reference, as long as the device is open.
-use Rattle.std.proofs.Common.{ℕ, ◌+◌, ◌==◌, ◌≡◌, ◌<◌, ◌≤◌, ◌∙◌, ◌⊎◌, inl, inr, Bool, true, false, not, List, [], ◌∷◌, ◌++◌, Option, Some, None, refl, sym, ap, subst, append_assoc, arith}
+use Rattle.std.proofs.Common.{ℕ, ◌+◌, ◌≡◌, ◌<◌, ◌≤◌, ◌∙◌, ◌⊎◌, inl, inr, Bool, true, false, [], ◌∷◌, ◌++◌, Option, Some, None, refl, sym, ap, subst, append_assoc, arith}
 use Rattle.std.specs.Prelude.{cond, nat_lt}
 use Rattle.std.specs.Option.{option_map, option_map_or, unwrap_or}
-use Rattle.std.proofs.lemmas.Bool.{cases_eq, cases_lt, cond-false, cond-true, eqb-true, lt-ltb, or_left}
-use Rattle.dev_types.specs.declared.data_types.DataType.{DataType}
+use Rattle.std.proofs.lemmas.Bool.{cases_eq, cases_lt, cond-false, eqb-true, lt-ltb, or_left}
 use Rattle.kind_tables.specs.Kinds.{kind_of}
 use Rattle.kind_tables.specs.declared.kinds.Kind.{Kind}
 use Rattle.seq_model.proofs.Afters.{grows_by}
 use Rattle.seq_model.proofs.Came.{stop_objects}
-use Rattle.seq_model.proofs.Changes.{AreLike, Change, Quiet, Making, Rendering, Discarding, Finishing, Leaving, Closing, IsQuiet, changed_here, entry_changes, others_unchanged}
+use Rattle.seq_model.proofs.Changes.{AreLike, Change, Quiet, Making, Rendering, Discarding, Finishing, Leaving, Closing, changed_here, entry_changes, others_unchanged}
 use Rattle.seq_model.proofs.Creations.{kind_is_there, made_handle}
 use Rattle.seq_model.proofs.Deaths.{left_at, rises_by}
 use Rattle.seq_model.proofs.Granted.{AllNone, all_none, given}
@@ -25,7 +24,7 @@ use Rattle.seq_model.specs.Legal.{Legal}
 use Rattle.seq_model.specs.Life.{is_root}
 use Rattle.seq_model.specs.Refusals.{own, refusal, refusals_of}
 use Rattle.seq_model.specs.State.{Object, Phase, Empty, Flight, Done, State, changed_at, object_at, with_object}
-use Rattle.seq_model.specs.Steps.{Past, after, change, discard, effect, end_flight, end_flights, fresh, fresh_array, next_place, set_phase, stop}
+use Rattle.seq_model.specs.Steps.{Past, after, change, discard, effect, end_flight, end_flights, fresh, fresh_array, next_place, set_phase}
 use Rattle.seq_model.specs.declared.calls.Call.TheVariants.{NewObject, NewArray, Retain}
 use Rattle.seq_model.specs.declared.calls.Entry.{Entry}
 use Rattle.seq_model.specs.declared.calls.Entry.TheVariants.{Called, Finished, Left, Closed}
@@ -97,14 +96,16 @@ unfolding change effect
 made_there history (Called actor (NewObject t subtype) (reply.Made k)) h legal is =
     let next : h ≡ (after history).state.next = sym (eqb-true k h is) ∙ (made_handle history actor k (NewObject t subtype) legal).0 in
     let kind : (kind : Kind) × (kind_of t subtype ≡ Some kind) =
-    kind_is_there (after history) t subtype (given (after history) (NewObject t subtype) (reply.Made k) (in_place history (Called actor (NewObject t subtype) (reply.Made k)) [] legal).0 (λ refused is. cc)).0 in
-    (fresh kind.0 None,
-    ap (λ x. object_at (unwrap_or (option_map (λ kind. with_object (fresh kind None) (after history).state) x) (after history).state) h) kind.1
-    ∙ ap (object_at (with_object (fresh kind.0 None) (after history).state)) next ∙ new_is_there (fresh kind.0 None) (after history).state (rises history))
+    kind_is_there (after history) t subtype (given (after history) (NewObject t subtype) (reply.Made k) (in_place history (Called actor (NewObject t subtype) (reply.Made k)) [] legal).0 (λ refused is. cc)).0 in (
+      fresh kind.0 None,
+      ap (λ x. object_at (unwrap_or (option_map (λ kind. with_object (fresh kind None) (after history).state) x) (after history).state) h) kind.1
+          ∙ ap (object_at (with_object (fresh kind.0 None) (after history).state)) next ∙ new_is_there (fresh kind.0 None) (after history).state (rises history),
+    )
 made_there history (Called actor (NewArray elem count stride origin bytes) (reply.Made k)) h legal is =
-    let next : h ≡ (after history).state.next = sym (eqb-true k h is) ∙ (made_handle history actor k (NewArray elem count stride origin bytes) legal).0 in
-    (fresh_array elem count stride origin bytes,
-    ap (object_at (with_object (fresh_array elem count stride origin bytes) (after history).state)) next ∙ new_is_there (fresh_array elem count stride origin bytes) (after history).state (rises history))
+    let next : h ≡ (after history).state.next = sym (eqb-true k h is) ∙ (made_handle history actor k (NewArray elem count stride origin bytes) legal).0 in (
+      fresh_array elem count stride origin bytes,
+      ap (object_at (with_object (fresh_array elem count stride origin bytes) (after history).state)) next ∙ new_is_there (fresh_array elem count stride origin bytes) (after history).state (rises history),
+    )
 made_there history (Called actor (NewObject t subtype) _) h legal is = absurd cc
 made_there history (Called actor (NewArray elem count stride origin bytes) _) h legal is = absurd cc
 made_there history (Called actor (Retain k) r) h legal is = absurd cc
@@ -148,8 +149,10 @@ held_more history e now next legal h gone = by (object_at (after history).state 
   where
     here : Legal (history ++ e ∷ [])
     here = prefix_is_legal (history ++ e ∷ []) (next ∷ []) legal
+
     moves : public (history ++ e ∷ []) h + cond (is_releasing h e) 1 0 ≡ public history h + cond (is_making h e) 1 0 + cond (is_retaining h e) 1 0
     moves = public_moves history e h here
+
     quiet : (m r : Bool) → is_making h e ≡ m → is_retaining h e ≡ r → object_at (after history).state h ≡ None → public (history ++ e ∷ []) h ≡ 0
     quiet true r making retaining none = goes_unheld history e h (made_there history e h here making) gone
     quiet false true making retaining none =
@@ -160,6 +163,7 @@ held_more history e now next legal h gone = by (object_at (after history).state 
         let first : cond {A = ℕ} (is_making h e) 1 0 ≡ 0 = cond-false (is_making h e) 1 0 making in
         let second : cond {A = ℕ} (is_retaining h e) 1 0 ≡ 0 = cond-false (is_retaining h e) 1 0 retaining in
         omega (arith, moves, before, first, second)
+
     by : (x : Option Object) → object_at (after history).state h ≡ x → public (history ++ e ∷ []) h ≡ 0
     by None none = quiet (is_making h e) (is_retaining h e) refl refl none
     by (Some o) there =

@@ -1,7 +1,7 @@
 -- How public counts move, and that nothing is held that is not there.
-use Rattle.std.proofs.Common.{ℕ, ◌+◌, ◌-◌, ◌==◌, ◌≡◌, ◌<◌, ◌≤◌, ◌∙◌, ◌⊎◌, inl, inr, Bool, true, false, List, [], ◌∷◌, ◌++◌, Option, Some, None, refl, sym, ap, subst, arith}
+use Rattle.std.proofs.Common.{ℕ, ◌+◌, ◌-◌, ◌==◌, ◌≡◌, ◌≤◌, Bool, true, false, [], ◌∷◌, ◌++◌, None, refl, subst, arith}
 use Rattle.std.specs.Prelude.{cond, count_by}
-use Rattle.std.proofs.lemmas.Bool.{cases_eq, cond-false, cond-true, eqb-false, eqb-true}
+use Rattle.std.proofs.lemmas.Bool.{cond-false, cond-true, eqb-false, eqb-true}
 use Rattle.std.proofs.lemmas.List.Sums.{sum_by_push}
 use Rattle.dev_types.specs.declared.refusals.Refused.TheVariants.{NotHeld}
 use Rattle.seq_model.proofs.Afters.{seen_is_history}
@@ -9,10 +9,10 @@ use Rattle.seq_model.proofs.Granted.{AllNone, all_none, does_not_apply, given}
 use Rattle.seq_model.proofs.Prefixes.{in_place, prefix_is_legal}
 use Rattle.seq_model.proofs.Afters.{grows_by}
 use Rattle.seq_model.specs.Histories.{History, is_making, is_releasing, is_retaining, public}
-use Rattle.seq_model.specs.Legal.{IsInPlace, Legal}
+use Rattle.seq_model.specs.Legal.{Legal}
 use Rattle.seq_model.specs.Refusals.{own, refusal, refusals_of}
 use Rattle.seq_model.specs.Steps.{Past, after}
-use Rattle.seq_model.specs.declared.calls.Call.TheVariants.{NewObject, NewArray, Retain, Release}
+use Rattle.seq_model.specs.declared.calls.Call.TheVariants.{Retain, Release}
 use Rattle.seq_model.specs.declared.calls.Entry.{Entry}
 use Rattle.seq_model.specs.declared.calls.Entry.TheVariants.{Called, Finished, Left, Closed}
 use Rattle.seq_model.specs.declared.calls.Reply.TheVariants as reply
@@ -78,6 +78,7 @@ releases_within h history = grows_by (λ history. Legal history → released h h
       where
         before : released h history ≤ made h history + retained h history
         before = now (prefix_is_legal history (e ∷ []) legal)
+
         by : (t : Bool) → is_releasing h e ≡ t → released h (history ++ e ∷ []) ≤ made h (history ++ e ∷ []) + retained h (history ++ e ∷ [])
         by true is =
             let one : one_if (is_releasing h e) ≡ 1 = cond-true (is_releasing h e) 1 0 is in
