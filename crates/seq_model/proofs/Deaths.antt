@@ -17,7 +17,7 @@ use Rattle.seq_model.specs.State.{Object, State, object_at}
 use Rattle.seq_model.specs.Steps.{Past, after, is_reached, step, swept}
 use Rattle.seq_model.specs.declared.calls.Entry.{Entry}
 
-rises_by : (history : History) (e : Entry) → IsRising (changed_by history e)
+pub rises_by : (history : History) (e : Entry) → IsRising (changed_by history e)
 rises_by history e = (changed_rises (after history) e (rises history)).0
 
 changed_sound : (history : History) (e : Entry) → Legal (history ++ e ∷ []) → AllSound (changed_by history e)
@@ -34,7 +34,7 @@ left history e =
     swept_live : (past : Past) (s : State) → (swept past.seen past.reached s).objects ≡ live (is_root (public past.seen) (is_reached past.reached s)) s.objects
     swept_live past s = swept_objects past s ∙ sym (live_keeps (root_of past s) s.objects)
 
-left_at : (history : History) (e : Entry) (h : ℕ) → object_at (after (history ++ e ∷ [])).state h ≡ at h (live (lives_itself history e) (changed_by history e).objects)
+pub left_at : (history : History) (e : Entry) (h : ℕ) → object_at (after (history ++ e ∷ [])).state h ≡ at h (live (lives_itself history e) (changed_by history e).objects)
 left_at history e h = ap (at h) (left history e)
 
 stood : (history : History) (e : Entry) (h : ℕ) (o : Object) → object_at (after (history ++ e ∷ [])).state h ≡ Some o → object_at (changed_by history e) h ≡ Some o

@@ -54,7 +54,7 @@ set_value_early h (e ∷ es) fs o w found = by (is_at (nat_cmp h) e.0) refl (λ 
     by true is rest = refl
     by false is rest = let there : at h es ≡ Some o = rw is at found in ap (λ xs. e ∷ xs) (rest there)
 
-there_with : (a : Object) (s : State) (h : ℕ) (o : Object) → object_at s h ≡ Some o → object_at (with_object a s) h ≡ Some o
+pub there_with : (a : Object) (s : State) (h : ℕ) (o : Object) → object_at s h ≡ Some o → object_at (with_object a s) h ≡ Some o
 there_with a s h o found = at_append h s.objects ((s.next, a) ∷ []) ∙ ap (λ x. option_or x (at h ((s.next, a) ∷ []))) found
 
 changed_then_new : (a : Object) (h : ℕ) (f : Object → Object) (s : State) (o : Object) → object_at s h ≡ Some o → with_object a (changed_at h f s) ≡ changed_at h f (with_object a s)
@@ -64,7 +64,7 @@ changed_then_new a h f s o found =
     ∙ sym (ap (λ x. record (with_object a s) { objects = unwrap_or (option_map (λ o. set_value (is_at (nat_cmp h)) (with_object a s).objects (f o)) x) (with_object a s).objects }) (there_with a s h o found))
 
 -- the new array is there under the next handle
-new_is_there : (a : Object) (s : State) → IsRising s → object_at (with_object a s) s.next ≡ Some a
+pub new_is_there : (a : Object) (s : State) → IsRising s → object_at (with_object a s) s.next ≡ Some a
 new_is_there a s rising =
     at_append s.next s.objects ((s.next, a) ∷ []) ∙ ap (λ x. option_or x (at s.next ((s.next, a) ∷ []))) (nothing_outside s.next 1 s.next s.objects rising (λ low high. omega (arith, high)))
     ∙ ap (λ t. cond t (Some a) None) (key_here s.next)

@@ -1,5 +1,5 @@
 -- What comes back by an unmap: an element that names no object which is there with its type, is none.
-use Rattle.std.specs.Prelude.{ℕ, ◌+◌, List, Option, fold, if◌then◌else◌}
+use Rattle.std.specs.Prelude.{ℕ, List, fold, if◌then◌else◌}
 use Rattle.std.specs.Option.{option_and_then, option_map_or}
 use Rattle.dev_types.specs.Blocks.{with_part}
 use Rattle.kind_tables.specs.SceneObjects.{Block, objects_in}

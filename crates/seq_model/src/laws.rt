@@ -1,5 +1,5 @@
 //! What holds of every history: each law is the contract of a function that does nothing.
-ghost use Rattle.std.specs.Prelude.{◌+◌, map, false, IsSomeAnd, count_by, List, IsTrue, Bool, ◌≡◌, ℕ, ◌≤◌, ◌<◌, All, length, None, ◌++◌, ◌∷◌, [], Some};
+ghost use Rattle.std.specs.Prelude.{◌+◌, cond, map, false, IsSomeAnd, count_by, List, IsTrue, Bool, ◌≡◌, ℕ, ◌≤◌, ◌<◌, All, length, None, ◌++◌, ◌∷◌, [], Some};
 ghost use Rattle.std.specs.BTreeMap.{is_at};
 ghost use Rattle.std.specs.List.Sorted.{IsStrictlyIncreasing};
 ghost use Rattle.std.specs.Map.{keys_of, lookup};
@@ -16,7 +16,7 @@ ghost use Rattle.kind_tables.specs.Walks.{visited, walk};
 ghost use Rattle.seq_model.specs.Deaths.{HoldsItself, changed_by};
 ghost use Rattle.seq_model.specs.Ends.{is_capturing, is_deleting};
 ghost use Rattle.seq_model.specs.Extensions.{let_follow, readings_of};
-ghost use Rattle.seq_model.specs.Histories.{History, frame_at};
+ghost use Rattle.seq_model.specs.Histories.{History, frame_at, is_making, is_releasing, is_retaining, public};
 ghost use Rattle.seq_model.specs.Legal.{IsNext, Legal};
 ghost use Rattle.seq_model.specs.Lending.{WasLent};
 ghost use Rattle.seq_model.specs.Life.{has, names_of, times};
@@ -26,7 +26,7 @@ ghost use Rattle.seq_model.specs.Soundness.{AllSound};
 ghost use Rattle.seq_model.specs.State.{Object, flights, object_at, scene_objects};
 ghost use Rattle.seq_model.specs.Steps.{after, next_place, step, swept};
 ghost use Rattle.seq_model.specs.Tickets.{ticket_of};
-ghost use Rattle.seq_model.specs.Told.{told};
+ghost use Rattle.seq_model.specs.Told.{told, told_by};
 ghost use Rattle.seq_model.specs.declared.calls.Call.{Call};
 ghost use Rattle.seq_model.specs.declared.calls.Call.TheVariants.{DiscardFrame, FrameReady, GetProperty, ObjectInfo, ParameterInfo, RenderFrame, Subtypes};
 ghost use Rattle.seq_model.specs.declared.calls.Entry.{Entry};
@@ -219,4 +219,21 @@ pub fn loans_stand_once()
         IsStrictlyIncreasing (map (λ m. m.1) o.channels) × All (λ n. n < next_place (after history)) (map (λ m. m.1) o.channels) }
     ensures one_a_channel { (history : History) (h : ℕ) (o : Object) (c : Channel) → Legal history → object_at (after history).state h ≡ Some o →
         count_by (λ m. is_same_channel m.0 c) o.channels ≤ 1 }
+{}
+
+/// A public count moves by the entries that make, retain and release the object: none is released that is not held.
+pub fn public_counts_move()
+    ensures { (history : History) (e : Entry) (h : ℕ) → Legal (history ++ e ∷ []) →
+        public (history ++ e ∷ []) h + cond (is_releasing h e) 1 0 ≡ public history h + cond (is_making h e) 1 0 + cond (is_retaining h e) 1 0 }
+{}
+
+/// What one more entry tells comes last.
+#[tactic(auto, using(crate::proofs::Tellings::told_more))]
+pub fn told_is_stepwise()
+    ensures { (history : History) (e : Entry) → told (history ++ e ∷ []) ≡ told history ++ told_by (after history) e }
+{}
+
+/// While a history may go on, an object that is gone has no public reference.
+pub fn what_is_gone_is_not_held()
+    ensures { (history : History) (further : Entry) (h : ℕ) → Legal (history ++ further ∷ []) → object_at (after history).state h ≡ None → public history h ≡ 0 }
 {}
