@@ -1,12 +1,12 @@
 -- The rules of one call.
-use Rattle.std.proofs.Common.{◌≡◌, ℕ, suc, ◌<◌, ◌≤◌, List, [], ◌∷◌, Bool, true, false, Option, Some, None, Result, Ok, Err, refl, ap, sym, ◌∙◌, subst, arith}
+use Rattle.std.proofs.Common.{◌≡◌, ℕ, suc, ◌<◌, [], ◌∷◌, Bool, true, false, Option, Some, None, Ok, Err, refl, ap, sym, ◌∙◌, subst, arith}
 use Rattle.std.specs.Prelude.{not, is_none, nat_le, option_and_then}
 use Rattle.std.proofs.lemmas.Bool.Decides.{nat_tests}
 use Rattle.serde_json.specs.Data.{Data}
 use Rattle.trace_text.specs.Ops.{most_calls}
 use Rattle.trace_text.specs.Forms.{call_form}
 use Rattle.trace_text.specs.Places.{a_call, op_of, placed}
-use Rattle.trace_text.specs.Reading.{Before, after, binds_again, bound_by, call_of, call_rules, checked, fault_at, first_broken, is_too_deep, rule_number, unless_broken, with_label, Tells}
+use Rattle.trace_text.specs.Reading.{Before, after, binds_again, bound_by, call_of, call_rules, checked, first_broken, is_too_deep, rule_number, unless_broken, with_label, Tells}
 use Rattle.trace_text.specs.declared.ops.Version.{Version}
 use Rattle.trace_text.specs.declared.ops.Op.{Op}
 use Rattle.trace_text.specs.declared.fault.Rule.{Rule}

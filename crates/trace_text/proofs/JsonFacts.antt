@@ -1,5 +1,5 @@
 -- Lists and keys of JSON values, as code holds them.
-use Rattle.std.proofs.Common.{◌≡◌, ℕ, ◌+◌, ◌<◌, ◌≤◌, zero, suc, List, [], ◌∷◌, ◌++◌, Bool, true, false, Option, Some, None, map, take, drop, length, get_or, refl, ap, sym, ◌∙◌, arith, append_assoc, append-nil, add-one, Bor, String, Global, string_bytes, ◌&&◌, ◌||◌}
+use Rattle.std.proofs.Common.{◌≡◌, ℕ, ◌+◌, ◌<◌, ◌≤◌, zero, suc, List, [], ◌∷◌, ◌++◌, false, Option, Some, None, map, drop, length, get_or, refl, ap, sym, ◌∙◌, arith, append_assoc, append-nil, add-one, Bor, String, Global, string_bytes, ◌&&◌, ◌||◌}
 use Rattle.std.proofs.Math.Seq.{drop-cons}
 use Rattle.std.specs.Prelude.{option_map, option_and_then, unwrap_or}
 use Rattle.std.specs.List.{list_all, list_any}

@@ -1,8 +1,8 @@
 -- The places of a text, one piece after the other.
-use Rattle.std.proofs.Common.{◌≡◌, ℕ, zero, suc, ◌+◌, ◌-◌, ◌<◌, ◌≤◌, ◌&&◌, List, [], ◌∷◌, ◌++◌, Bool, true, false, Option, Some, None, Result, Ok, Err, map, drop, length, get_or, refl, ap, sym, ◌∙◌, subst, append_assoc, append-nil, add-one, arith, IsTrue, true≢false}
+use Rattle.std.proofs.Common.{◌≡◌, ℕ, zero, suc, ◌+◌, ◌-◌, ◌<◌, ◌≤◌, ◌&&◌, List, [], ◌∷◌, ◌++◌, Bool, true, false, Option, Some, None, Result, Ok, Err, map, drop, length, get_or, refl, ap, sym, ◌∙◌, subst, append_assoc, append-nil, add-one, arith}
 use Rattle.std.specs.Result.{IsErr, IsErrAnd}
-use Rattle.std.specs.Prelude.{⊤, codes, option_map, option_and_then, if◌then◌else◌}
-use Rattle.std.specs.List.{cons_option, filter_map, flat_map, list_all}
+use Rattle.std.specs.Prelude.{codes, option_and_then, if◌then◌else◌}
+use Rattle.std.specs.List.{cons_option, flat_map, list_all}
 use Rattle.std.proofs.lemmas.Bool.{le-leb}
 use Rattle.std.proofs.lemmas.List.{map-append, length-map}
 use Rattle.std.proofs.lemmas.List.Folds.{list_all-map}

@@ -1,6 +1,6 @@
 -- The places of callers, phases and whole texts.
-use Rattle.std.proofs.Common.{◌≡◌, ℕ, suc, ◌<◌, ◌≤◌, List, [], ◌∷◌, ◌++◌, Bool, true, false, Option, Some, None, Result, Ok, Err, map, take, length, refl, ap, sym, ◌∙◌, subst, arith, not}
-use Rattle.std.specs.Prelude.{⊤, codes, nat_lt, option_map, option_and_then, IsUtf8, if◌then◌else◌}
+use Rattle.std.proofs.Common.{◌≡◌, ℕ, ◌<◌, ◌≤◌, List, [], ◌∷◌, ◌++◌, Bool, true, false, Option, Some, None, Ok, Err, map, take, length, refl, ap, sym, ◌∙◌, subst, arith, not}
+use Rattle.std.specs.Prelude.{codes, nat_lt, option_map, IsUtf8, if◌then◌else◌}
 use Rattle.std.specs.List.{flat_map}
 use Rattle.std.specs.Str.{is_utf8}
 use Rattle.std.proofs.lemmas.Bool.{lt-ltb}
@@ -14,9 +14,8 @@ use Rattle.serde_json.specs.declared.value.Value.{Value}
 use Rattle.trace_text.specs.Json.{from2, field, has_only, list_of}
 use Rattle.trace_text.specs.Forms.{only}
 use Rattle.trace_text.specs.Places.{Mark, a_caller, a_phase, more_phases, Place, most_phases, numbered, phase_places, placed, places}
-use Rattle.trace_text.specs.Reading.{Before, at_start, checked, fault_at, if_unbroken, is_phase, json_of, most_bytes, phases_of, root_of, trace_of, trace_of_json, trace_of_root, unless_broken, version_of, IsAnswerTo, Tells}
+use Rattle.trace_text.specs.Reading.{Before, at_start, checked, fault_at, if_unbroken, is_phase, json_of, most_bytes, root_of, trace_of, trace_of_json, trace_of_root, unless_broken, version_of, IsAnswerTo, Tells}
 use Rattle.trace_text.specs.declared.ops.Version.{Version}
-use Rattle.trace_text.specs.declared.fault.Rule.{Rule}
 use Rattle.trace_text.specs.declared.fault.Rule.TheVariants.{NotAPhase, TooLong}
 use Rattle.trace_text.specs.declared.fault.TraceFault.{TraceFault}
 use Rattle.trace_text.specs.declared.fault.TraceError.{TraceError}

@@ -1,5 +1,5 @@
 -- Values that are written as numbers, one for each component.
-use Rattle.std.specs.Prelude.{◌≡◌, ◌++◌, Bool, true, false, ℕ, ℤ, pos, negsuc, neg_ℤ, ◌-◌, ◌^◌, ◌==◌, ◌&&◌, List, [], ◌∷◌, Option, Some, None, option_and_then, option_map, nat_lt, int_le, length, if◌then◌else◌}
+use Rattle.std.specs.Prelude.{◌≡◌, ◌++◌, Bool, true, false, ℕ, ℤ, pos, negsuc, neg_ℤ, ◌-◌, ◌^◌, ◌==◌, ◌&&◌, List, Option, Some, None, option_and_then, option_map, nat_lt, int_le, length, if◌then◌else◌}
 use Rattle.std.specs.Int.{Width, w8, w32, w64, to_le_bytes}
 use Rattle.std.specs.List.{concat}
 use Rattle.dev_types.specs.ValueBytes.{signed_bytes, decoded}

@@ -1,5 +1,5 @@
 -- What a text is: a trace, or the first of its rules that it breaks.
-use Rattle.std.specs.Prelude.{◌≡◌, ◌<◌, ⊤, IsTrue, ℕ, suc, ◌==◌, ◌&&◌, ◌||◌, List, [], ◌∷◌, Bool, true, false, not, Option, Some, None, is_none, is_some, option_map, option_and_then, unwrap_or, Result, Ok, Err, nat_lt, nat_le, length, map, codes, if◌then◌else◌}
+use Rattle.std.specs.Prelude.{◌≡◌, ◌<◌, ⊤, IsTrue, ℕ, suc, ◌==◌, ◌&&◌, List, [], ◌∷◌, Bool, true, false, not, Option, Some, None, is_none, option_map, option_and_then, unwrap_or, Result, Ok, Err, nat_lt, nat_le, length, map, codes, if◌then◌else◌}
 use Rattle.std.specs.BTreeMap.{is_at}
 use Rattle.std.specs.BTreeSet.{insert_key}
 use Rattle.std.specs.Cmp.Lexicographic.{slice_cmp}

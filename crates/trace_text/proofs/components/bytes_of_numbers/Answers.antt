@@ -1,4 +1,3 @@
-use Rattle.std.proofs.Common.{◌≡◌, rules}
 use Rattle.trace_text.specs.Components.{component_bytes}
 use Rattle.trace_text.proofs.ComponentFacts.{joined-step, joined-stops}
 use Rattle.trace_text.proofs.components.bytes_of_numbers.Goals as goal

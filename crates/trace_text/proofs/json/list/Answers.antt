@@ -1,4 +1,4 @@
-use Rattle.std.proofs.Common.{◌≡◌, map, Some, ap, sym, ◌∙◌}
+use Rattle.std.proofs.Common.{map, Some, ap, sym, ◌∙◌}
 use Rattle.serde_json.specs.View.{view}
 use Rattle.trace_text.proofs.JsonFacts.{list_of-array}
 use Rattle.trace_text.proofs.json.list.Goals as goal

@@ -1,8 +1,7 @@
-use Rattle.std.proofs.Common.{◌≡◌, ◌∷◌, [], ◌++◌, ◌-◌, Err, Ok, Some, map, drop, sym, ap, ◌∙◌, append_assoc}
+use Rattle.std.proofs.Common.{[], ◌-◌, map, sym, ◌∙◌}
 use Rattle.serde_json.specs.View.{view}
-use Rattle.trace_text.specs.Places.{end_of_loan, marks, placed}
-use Rattle.trace_text.specs.Reading.{calls_of, checked}
-use Rattle.trace_text.proofs.ReadingFacts.{calls-end, calls-step, calls_of-end, checked-nil, handed_on, inside-loan, inside_of-other, loan-grown, past_end, places-broken, places-broken_inside, places-end, places-step, tells_more}
+use Rattle.trace_text.specs.Places.{marks}
+use Rattle.trace_text.proofs.ReadingFacts.{calls-end, calls-step, checked-nil, handed_on, inside-loan, inside_of-other, loan-grown, past_end, places-broken, places-broken_inside, places-end, places-step, tells_more}
 use Rattle.trace_text.proofs.reader.+read_calls.Goals as goal
 use Rattle.trace_text.proofs.reader.+read_calls.Goals.{then-is_loan+in_ok-read_calls+in_ok-push-2, else-is_loan}
 

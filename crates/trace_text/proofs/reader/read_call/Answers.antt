@@ -1,4 +1,4 @@
-use Rattle.std.proofs.Common.{◌≡◌, sym, ap, ◌∙◌}
+use Rattle.std.proofs.Common.{sym, ◌∙◌}
 use Rattle.serde_json.specs.View.{view}
 use Rattle.trace_text.proofs.CallFacts.{breaks_form, breaks_label, is_added, not_added, reads_call, tells_broken}
 use Rattle.trace_text.specs.declared.fault.Rule.TheVariants.{NotOfItsForm, BoundBefore}

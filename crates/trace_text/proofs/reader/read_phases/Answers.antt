@@ -1,4 +1,4 @@
-use Rattle.std.proofs.Common.{◌≡◌, ◌≤◌, List, Result, Ok, length, map, take, sym, ap, ◌∙◌, subst, arith}
+use Rattle.std.proofs.Common.{List, Result, Ok, map, sym, ap, ◌∙◌, arith}
 use Rattle.serde_json.specs.View.{view}
 use Rattle.trace_text.specs.Reading.{checked, nothing_before, phases_of}
 use Rattle.trace_text.specs.declared.calls.Phase.{Phase}

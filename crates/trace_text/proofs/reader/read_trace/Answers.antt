@@ -1,6 +1,6 @@
-use Rattle.std.proofs.Common.{◌≡◌, Err, Result, sym, ap, ◌∙◌, subst, true≢false}
+use Rattle.std.proofs.Common.{Err, Result, sym, ap, ◌∙◌, subst, true≢false}
 use Rattle.serde_json.specs.View.{view}
-use Rattle.trace_text.specs.Reading.{trace_of, IsAnswerTo}
+use Rattle.trace_text.specs.Reading.{IsAnswerTo}
 use Rattle.trace_text.specs.declared.calls.Trace.{Trace}
 use Rattle.trace_text.specs.declared.fault.TraceFault.{TraceFault}
 use Rattle.trace_text.proofs.WholeFacts.{trace_of-json, trace_of-no_json}
