@@ -5,7 +5,7 @@ use Rattle.serde_json.specs.Data.{Data}
 use Rattle.serde_json.specs.Read.{read}
 use Rattle.anari_replay.specs.declared.fault.Rule.{Rule}
 use Rattle.anari_replay.specs.declared.fault.Rule.TheVariants.{TooLong, NotJson, NotReadYet}
-use Rattle.anari_replay.specs.declared.fault.TraceFault.{TraceFault}
+use Rattle.trace_text.specs.declared.fault.TraceFault.{TraceFault}
 
 -- how many bytes a trace may have: 64 MiB
 abbrev pub most_bytes : ℕ

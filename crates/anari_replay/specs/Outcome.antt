@@ -1,7 +1,7 @@
 -- What each ending of a run comes to.
 use Rattle.std.specs.Prelude.{◌≡◌, ◌⊎◌, ℕ, Option, Some, None, Result, Ok, Err}
 use Rattle.anari_replay.specs.declared.outcome.Replayed.{Replayed}
-use Rattle.anari_replay.specs.declared.fault.TraceFault.{TraceFault}
+use Rattle.trace_text.specs.declared.fault.TraceFault.{TraceFault}
 use Rattle.anari_replay.specs.declared.fault.Fault.{Fault}
 use Rattle.anari_replay.specs.declared.fault.Fault.TheVariants.{Words, Memory, Read, Write, Trace}
 

@@ -7,17 +7,7 @@ ghost use Rattle.anari_replay.specs.declared.fault.Fault.TheVariants.{Memory};
 use replay_io::{NotRead, NotWritten};
 use std::alloc::{AllocError, AllocFailed};
 use thiserror::Error;
-
-/// Which rule a trace breaks first, and where. Places count from 0; one that does not apply is 0.
-#[derive(Clone, Copy, Debug, PartialEq, Eq)]
-pub struct TraceFault {
-    /// The rule's number.
-    pub rule: u8,
-    pub phase: u32,
-    pub caller: u32,
-    /// The call of this caller, in the order of the text.
-    pub call: u32,
-}
+use trace_text::TraceFault;
 
 /// The rules that an input can break so far.
 #[derive(Clone, Copy, Debug, PartialEq, Eq)]

@@ -2,9 +2,10 @@
 ghost use Rattle.std.specs.Prelude.{◌≡◌, [], None};
 ghost use Rattle.anari_replay.specs.Outcome.{status_of, trace_fault_of};
 
-use crate::fault::{Fault, TraceFault};
+use crate::fault::Fault;
 use std::alloc::Global;
 use std::marker::Model;
+use trace_text::TraceFault;
 
 /// One call of a history, with its reply. No history is kept yet, so there is none.
 #[derive(Drop)]

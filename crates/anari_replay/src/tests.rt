@@ -1,7 +1,6 @@
 //! What no clause says: that the images are the right ones, and that an answer other than want of
 //! memory comes where there is memory.
 
-use crate::fault::TraceFault;
 use crate::outcome::Outcome;
 use crate::recogniser::TRIANGLE;
 use crate::replay::run_plain;
@@ -9,6 +8,7 @@ use replay_io::{HostSource, MemorySink, MemorySource};
 use std::alloc::{AllocError, Global};
 use std::io::Read;
 use std::test::Fail;
+use trace_text::{TraceFault, read_trace};
 
 /// What stands at the free places of the triangle's trace, in the order of the text: the vertices'
 /// count and data, the colour, the camera's position and height, and the frame's size.
@@ -118,6 +118,13 @@ fn images_are_the_worked_ones(rt: HostRuntime) -> Result<(), Fail> {
         let wanted = image(rt.alloc(), header, pixels)?;
         assert_eq!(rt; sink.written(), wanted.as_slice(), "{parts:?}");
     }
+    Ok(())
+}
+
+#[test]
+fn the_whole_reader_reads_that_text_too(rt: HostRuntime) -> Result<(), Fail> {
+    let text = text_of(rt.alloc(), ITSELF)?;
+    assert!(rt; read_trace(rt.alloc(), text.as_bytes()).is_ok());
     Ok(())
 }
 
