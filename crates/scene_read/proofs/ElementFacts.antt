@@ -1,20 +1,18 @@
 -- The elements of arrays, one by one, and the shapes that they make.
-use Rattle.std.proofs.Common.{◌≡◌, ℕ, ℤ, ◌+◌, ◌/◌, ◌<◌, ◌≤◌, List, [], ◌∷◌, Option, Some, None, codes, length, get_or, map, refl, ap, sym, subst, ◌∙◌, arith, zero-add}
+use Rattle.std.proofs.Common.{◌≡◌, ℕ, ℤ, ◌+◌, ◌<◌, ◌≤◌, List, [], Option, Some, None, codes, length, get_or, map, refl, ap, sym, subst, ◌∙◌, arith, zero-add}
 use Rattle.std.specs.List.{enumerate_from, range_with_len}
 use Rattle.std.specs.Option.{option_and_then, option_map, option_map_or, unwrap_or}
 use Rattle.std.proofs.lemmas.List.{get_or_default, get_or_past, length-map, same_lists}
-use Rattle.std.proofs.lemmas.List.FromFn.{get_or-enumerate_from, get_or-map-range_with_len, length-enumerate_from, length-map-range_with_len, length-range_with_len}
+use Rattle.std.proofs.lemmas.List.FromFn.{get_or-enumerate_from, get_or-map-range_with_len, length-enumerate_from, length-map-range_with_len}
 use Rattle.std.proofs.lemmas.Simd.{map-map}
 use Rattle.byte_view.specs.Elements.{Elements, element}
 use Rattle.dev_types.specs.declared.values.Value.{Value}
-use Rattle.fx_math.specs.declared.scene.Shape.{Shape}
 use Rattle.fx_math.specs.declared.transforms.Mat34.{Mat34}
-use Rattle.fx_math.specs.declared.vectors.Vec3.{Vec3}
-use Rattle.kind_tables.specs.SceneObjects.{Block, SceneObject, SceneObjects, array_named, elements, indices_in, object_at, object_in, object_named, scalar_in, value_named, vector, vector_in}
-use Rattle.kind_tables.specs.Shapes.{common_radius, corners_by, corners_of, own_radii, positions_of, shapes_by, shapes_of, sphere, triangle, vertex}
+use Rattle.kind_tables.specs.SceneObjects.{Block, SceneObject, SceneObjects, array_named, elements, indices_in, object_at, object_in, scalar_in, value_named, vector, vector_in}
+use Rattle.kind_tables.specs.Shapes.{common_radius, corners_by, corners_of, own_radii, positions_of, shapes_by, shapes_of, sphere, triangle}
 use Rattle.kind_tables.specs.declared.kinds.Kind.{Kind}
 use Rattle.kind_tables.specs.declared.kinds.Kind.TheVariants.{GeometrySphere, GeometryTriangle}
-use Rattle.scene_read.specs.Reading.{all_elements, array_in, content_of, lent, named_in}
+use Rattle.scene_read.specs.Reading.{all_elements, array_in, content_of, lent}
 use Rattle.scene_read.specs.Shaped.{corners_at, count_in, scalars_of_array, sphere_at, triangle_at, triangle_count, vectors_in}
 
 -- what a function gives of element i, and behind the last one

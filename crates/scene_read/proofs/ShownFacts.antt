@@ -1,9 +1,7 @@
 -- What surfaces show, and what a frame names.
-use Rattle.std.proofs.Common.{◌≡◌, ℕ, List, [], Option, Some, None, codes, map, refl, ap, sym, ◌∙◌}
+use Rattle.std.proofs.Common.{◌≡◌, ℕ, List, [], Option, Some, None, codes, map, refl, ap, ◌∙◌}
 use Rattle.std.specs.List.{enumerate_from}
 use Rattle.std.specs.Option.{option_and_then, option_map, option_map_or, unwrap_or}
-use Rattle.fx_math.specs.declared.scene.Primitive.{Primitive}
-use Rattle.fx_math.specs.declared.scene.Shape.{Shape}
 use Rattle.kind_tables.specs.SceneObjects.{SceneObject, SceneObjects, object_at, object_in, object_named, value_named}
 use Rattle.kind_tables.specs.Scenes.{nothing_of, primitive, surface_primitives}
 use Rattle.kind_tables.specs.Shapes.{shapes_of}

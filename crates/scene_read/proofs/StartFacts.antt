@@ -1,5 +1,5 @@
 -- Where walks go on.
-use Rattle.std.proofs.Common.{◌≡◌, ℕ, zero, suc, ◌+◌, ◌-◌, ◌<◌, Bool, true, false, List, [], ◌∷◌, ◌++◌, Option, Some, None, All, map, refl, ap, subst, sym, ◌∙◌, arith}
+use Rattle.std.proofs.Common.{◌≡◌, ℕ, zero, suc, ◌-◌, false, List, [], ◌∷◌, ◌++◌, Option, Some, None, All, map, refl, ap, subst, sym, ◌∙◌, arith}
 use Rattle.std.specs.List.{filter_map, flat_map, cons_option, range_with_len}
 use Rattle.std.specs.Option.{option_and_then, option_map, option_map_or, unwrap_or}
 use Rattle.std.proofs.lemmas.List.{map-append}
@@ -13,11 +13,11 @@ use Rattle.kind_tables.specs.Rows.{parameters_of, rows_of}
 use Rattle.kind_tables.specs.SceneObjects.{Block, SceneObject, SceneObjects, object_at, object_in, objects_in, value_named}
 use Rattle.kind_tables.proofs.WalkLaws.{visits_are_objects}
 use Rattle.kind_tables.specs.Scenes.{nothing_of}
-use Rattle.kind_tables.specs.Walks.{Spot, Visit, at_element, at_origin, at_parameters_of, below, named_parameters, visit, walk, walk_from}
+use Rattle.kind_tables.specs.Walks.{Spot, Visit, at_element, at_origin, at_parameters_of, below, named_parameters, walk, walk_from}
 use Rattle.kind_tables.specs.declared.kinds.Kind.{Kind}
 use Rattle.kind_tables.specs.declared.kinds.Kind.TheVariants.{FrameDefault}
 use Rattle.kind_tables.specs.declared.rows.Row.{Row}
-use Rattle.scene_read.specs.Reading.{content_of, lent, named_in}
+use Rattle.scene_read.specs.Reading.{content_of, lent}
 use Rattle.scene_read.specs.Starts.{all_seen, content_starts, element_start, element_starts, parameter_starts, seen, start_of, starts_below, starts_of, visited_object}
 
 -- the value of a type that is no object's names none

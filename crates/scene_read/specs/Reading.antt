@@ -1,7 +1,7 @@
 -- What is read of an object: its values, by default where they were not committed, and its elements.
-use Rattle.std.specs.Prelude.{ℕ, ℤ, ◌≤◌, ◌^◌, List, [], Option, Some, IfSome, map}
+use Rattle.std.specs.Prelude.{ℕ, ◌≤◌, ◌^◌, List, Option, IfSome, map}
 use Rattle.std.specs.List.{range_with_len}
-use Rattle.std.specs.Option.{option_and_then, option_map, option_map_or, unwrap_or}
+use Rattle.std.specs.Option.{option_and_then, option_map, unwrap_or}
 use Rattle.byte_view.specs.Elements.{Elements, element}
 use Rattle.dev_types.specs.declared.values.Value.{Value}
 use Rattle.kind_tables.specs.SceneObjects.{Block, SceneObject, SceneObjects, object_at, object_in, value_named}

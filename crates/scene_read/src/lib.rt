@@ -2,12 +2,20 @@
 // of arrays. The objects are those of any device that implements `Objects`.
 #![tactic(auto)]
 
+pub mod geometries;
 pub mod objects;
 pub mod readers;
 pub mod scenes;
-pub mod shapes;
+#[cfg(test)]
+mod tests;
+#[cfg(test)]
+mod tests_store;
 pub mod visits;
 pub mod walks;
 
+pub use geometries::shapes;
 pub use objects::Objects;
+pub use readers::Subject;
+pub use scenes::{camera, light, scene, sides};
 pub use visits::{Spot, Visit, Visits};
+pub use walks::visits_from;

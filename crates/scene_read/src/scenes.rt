@@ -10,9 +10,9 @@ ghost use Rattle.scene_read.specs.Reading.{object_of};
 ghost use Rattle.scene_read.specs.Shown.{finish_of, finished, live_in};
 ghost use Rattle.scene_read.specs.Starts.{all_seen, seen, starts_of, visited_object};
 
+use crate::geometries::{placed, shapes};
 use crate::objects::Objects;
 use crate::readers::{Subject, color, id_in, kind, name_of, named, scalar, value, vector};
-use crate::shapes::{placed, shapes};
 use crate::visits::{Spot, Visit, Visits};
 use dev_types::{Handle, NoMemory, Value};
 use fx_math::{

@@ -1,4 +1,4 @@
-use Rattle.std.proofs.Common.{◌≡◌, sym, arith, refl}
+use Rattle.std.proofs.Common.{sym, refl}
 use Rattle.std.proofs.lemmas.List.{take_all}
 use Rattle.kind_tables.specs.Scenes.{light_at, lights_of}
 use Rattle.scene_read.proofs.ListFacts.{filter_map-map_more}

@@ -1,4 +1,4 @@
-use Rattle.std.proofs.Common.{◌≡◌, sym, refl}
+use Rattle.std.proofs.Common.{sym, refl}
 use Rattle.std.proofs.lemmas.List.{take_all}
 use Rattle.kind_tables.specs.Scenes.{primitives_at, primitives_of}
 use Rattle.scene_read.proofs.ListFacts.{flat_map-map_more}

@@ -1,4 +1,4 @@
-use Rattle.std.proofs.Common.{◌≡◌, ◌++◌, ◌∙◌, ap, sym, append_assoc, arith}
+use Rattle.std.proofs.Common.{◌++◌, ◌∙◌, ap, sym, append_assoc}
 use Rattle.scene_read.proofs.ListFacts.{enumerate_more}
 use Rattle.scene_read.specs.Shown.{finished}
 use Rattle.scene_read.proofs.scenes.push_shapes.Goals as goal

@@ -1,4 +1,4 @@
-use Rattle.std.proofs.Common.{◌≡◌, ◌++◌, ◌-◌, ◌∷◌, [], take}
+use Rattle.std.proofs.Common.{◌≡◌, ◌++◌, ◌-◌, take}
 use Rattle.std.specs.List.{flat_map}
 use Rattle.kind_tables.specs.Walks.{walk_from}
 use Rattle.scene_read.specs.Starts.{starts_of}

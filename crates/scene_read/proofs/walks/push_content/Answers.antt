@@ -1,4 +1,4 @@
-use Rattle.std.proofs.Common.{◌≡◌, false, [], ap, sym, ℕ}
+use Rattle.std.proofs.Common.{◌≡◌, false, ap, sym, ℕ}
 use Rattle.std.proofs.lemmas.List.{append-nil}
 use Rattle.dev_types.specs.DataTypes.{is_object_type}
 use Rattle.kind_tables.specs.Walks.{Spot}

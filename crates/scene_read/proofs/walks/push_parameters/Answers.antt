@@ -1,5 +1,4 @@
-use Rattle.std.proofs.Common.{◌≡◌, ◌++◌, ◌∙◌, true, ap, sym, append_assoc}
-use Rattle.std.specs.List.{list_all}
+use Rattle.std.proofs.Common.{◌++◌, ◌∙◌, ap, sym, append_assoc}
 use Rattle.dev_types.specs.Bounded.{is_name}
 use Rattle.scene_read.proofs.ListFacts.{filter_map-map_more, list_all-map_at}
 use Rattle.scene_read.specs.Starts.{parameter_start}

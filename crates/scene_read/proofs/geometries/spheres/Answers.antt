@@ -1,8 +1,8 @@
-use Rattle.std.proofs.Common.{arith, sym, rules, w32}
+use Rattle.std.proofs.Common.{arith, sym, w32}
 use Rattle.std.proofs.lemmas.Int.{to_z-of_z}
 use Rattle.std.proofs.lemmas.List.FromFn.{length-map-range_with_len, map-range_with_len_more}
 use Rattle.scene_read.specs.Shaped.{sphere_at}
-use Rattle.scene_read.proofs.shapes.spheres.Goals as goal
+use Rattle.scene_read.proofs.geometries.spheres.Goals as goal
 
 pub loop-k-preserved : goal.loop-k-preserved
 loop-k-preserved c =

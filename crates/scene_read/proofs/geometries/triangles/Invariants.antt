@@ -1,7 +1,7 @@
-use Rattle.std.proofs.Common.{◌≡◌, ◌≤◌, length, map}
+use Rattle.std.proofs.Common.{◌≡◌, map}
 use Rattle.std.specs.List.{range_with_len}
 use Rattle.scene_read.specs.Shaped.{triangle_at}
-use Rattle.scene_read.proofs.shapes.triangles.Given as goal
+use Rattle.scene_read.proofs.geometries.triangles.Given as goal
 
 abbrev pub invariant-loop-k : goal.invariant-loop-k
 invariant-loop-k l = l.shapes.items ≡ map (triangle_at l.m l.positions l.indices) (range_with_len 0 l.k)

@@ -1,8 +1,7 @@
 use Rattle.std.proofs.Common.{Some, sym, ap, ◌∙◌, [], arith}
 use Rattle.kind_tables.specs.SceneObjects.{vector, vector_in}
-use Rattle.dev_types.specs.declared.values.Value.{Value}
 use Rattle.scene_read.proofs.ElementFacts.{element_at, no_element}
-use Rattle.scene_read.proofs.shapes.vector_at.Goals as goal
+use Rattle.scene_read.proofs.geometries.vector_at.Goals as goal
 
 pub returns-then-i-len-clause-value : goal.returns-then-i-len-clause-value
 returns-then-i-len-clause-value c =

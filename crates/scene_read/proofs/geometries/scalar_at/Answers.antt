@@ -2,7 +2,7 @@ use Rattle.std.proofs.Common.{Some, sym, ap, ◌∙◌, pos, arith, rules, w32}
 use Rattle.std.proofs.lemmas.Int.{to_z-of_z}
 use Rattle.kind_tables.specs.SceneObjects.{scalar_in}
 use Rattle.scene_read.proofs.ElementFacts.{element_at, no_element}
-use Rattle.scene_read.proofs.shapes.scalar_at.Goals as goal
+use Rattle.scene_read.proofs.geometries.scalar_at.Goals as goal
 
 pub returns-then-i-len : goal.returns-then-i-len
 returns-then-i-len c =

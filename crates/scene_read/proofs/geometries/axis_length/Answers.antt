@@ -1,12 +1,12 @@
 use Rattle.std.proofs.Common.{ℤ, pos, ◌∙◌, w64, unsigned_abs, ap, arith, rules}
-use Rattle.std.proofs.lemmas.Int.{ints, to_z-of_z, to_z_pos}
+use Rattle.std.proofs.lemmas.Int.{to_z-of_z, to_z_pos}
 use Rattle.fx_math.specs.declared.vectors.Vec3.{Vec3}
 use Rattle.fx_math.specs.Mat34.{axis_length}
 use Rattle.fx_math.specs.Root.{isqrt}
 use Rattle.fx_math.specs.Vec3.{dot}
 use Rattle.fx_math.proofs.Lengths.{dot_self}
 use Rattle.fx_math.proofs.Placing.{axis_small}
-use Rattle.scene_read.proofs.shapes.axis_length.Goals as goal
+use Rattle.scene_read.proofs.geometries.axis_length.Goals as goal
 use mir.Syntax.{w128}
 
 pub dot-requires-clause-first : goal.dot-requires-clause-first

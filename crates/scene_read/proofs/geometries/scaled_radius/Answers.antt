@@ -5,7 +5,7 @@ use Rattle.std.specs.Int.{int_div_euclid}
 use Rattle.fx_math.specs.declared.vectors.Vec3.{Vec3}
 use Rattle.fx_math.specs.Mat34.{axis_length, scaled_radius}
 use Rattle.fx_math.specs.Vec3.{reach, scaled_down, times}
-use Rattle.scene_read.proofs.shapes.scaled_radius.Goals as goal
+use Rattle.scene_read.proofs.geometries.scaled_radius.Goals as goal
 
 pub times-requires : goal.times-requires
 times-requires c =

@@ -10,7 +10,7 @@ use Rattle.kind_tables.specs.declared.kinds.Kind.TheVariants.{FrameDefault, Geom
 use Rattle.scene_read.proofs.ElementFacts.{other_read, spheres_read, triangles_read}
 use Rattle.scene_read.specs.Reading.{object_of}
 use Rattle.scene_read.specs.declared.readers.Subject.{Subject}
-use Rattle.scene_read.proofs.shapes.shapes.Goals as goal
+use Rattle.scene_read.proofs.geometries.shapes.Goals as goal
 
 pub returns-in-GeometryTriangle-clause-value : goal.returns-in-GeometryTriangle-clause-value
 returns-in-GeometryTriangle-clause-value g c =

@@ -3,7 +3,7 @@ use Rattle.std.proofs.lemmas.Int.{to_z-of_z}
 use Rattle.fx_math.specs.Mat34.{column}
 use Rattle.fx_math.proofs.Kept.{kept}
 use Rattle.fx_math.proofs.Sizes.{reach_within, same_vec}
-use Rattle.scene_read.proofs.shapes.column.Goals as goal
+use Rattle.scene_read.proofs.geometries.column.Goals as goal
 
 pub returns-clause-value : goal.returns-clause-value
 unfolding column

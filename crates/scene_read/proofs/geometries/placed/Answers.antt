@@ -2,7 +2,7 @@ use Rattle.std.proofs.Common.{ap, ◌∙◌, arith}
 use Rattle.fx_math.specs.declared.vectors.Vec3.{Vec3}
 use Rattle.fx_math.specs.Mat34.{linear, placed}
 use Rattle.fx_math.specs.Vec3.{add}
-use Rattle.scene_read.proofs.shapes.placed.Goals as goal
+use Rattle.scene_read.proofs.geometries.placed.Goals as goal
 
 pub add-requires : goal.add-requires
 add-requires c = omega arith

@@ -1,7 +1,7 @@
 use Rattle.std.proofs.Common.{arith, sym}
 use Rattle.std.proofs.lemmas.List.FromFn.{length-map-range_with_len, map-range_with_len_more}
 use Rattle.scene_read.specs.Shaped.{triangle_at}
-use Rattle.scene_read.proofs.shapes.triangles.Goals as goal
+use Rattle.scene_read.proofs.geometries.triangles.Goals as goal
 
 pub loop-k-preserved : goal.loop-k-preserved
 loop-k-preserved c =
