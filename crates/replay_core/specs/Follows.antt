@@ -2,7 +2,7 @@
 -- other. Notes may stand anywhere.
 use Rattle.std.specs.Prelude.{◌≡◌, ℕ, ◌+◌, Bool, true, false, List, [], ◌∷◌, ◌++◌, Option, Some, None, IsTrue, drop, map, slice_get, slice_set, if◌then◌else◌}
 use Rattle.std.specs.List.{last_or, list_all}
-use Rattle.std.specs.Option.{option_and_then, option_map, option_map_or}
+use Rattle.std.specs.Option.{option_and_then, option_map_or}
 use Rattle.replay_core.specs.Labels.{Binding, Meaning, call_of, handle_of}
 use Rattle.replay_core.specs.Loans.{opens, unmap_of}
 use Rattle.replay_core.specs.Solo.{binding_of}
@@ -13,7 +13,6 @@ use Rattle.seq_model.specs.declared.calls.Call.{Call}
 use Rattle.seq_model.specs.declared.calls.Entry.{Entry}
 use Rattle.seq_model.specs.declared.calls.Entry.TheVariants.{Called, Closed}
 use Rattle.seq_model.specs.declared.calls.Reply.{Reply}
-use Rattle.trace_text.specs.declared.calls.Caller.{Caller}
 use Rattle.trace_text.specs.declared.calls.Phase.{Phase}
 use Rattle.trace_text.specs.declared.calls.Trace.{Trace}
 use Rattle.trace_text.specs.declared.calls.TraceCall.{TraceCall}

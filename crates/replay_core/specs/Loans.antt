@@ -1,5 +1,5 @@
 -- The loans of a replay: what is written into one where it is granted, and the unmap that ends it.
-use Rattle.std.specs.Prelude.{ℕ, ◌*◌, nat_lt, Bool, true, false, List, [], Option, Some, None, fold, if◌then◌else◌}
+use Rattle.std.specs.Prelude.{ℕ, ◌*◌, nat_lt, Bool, true, false, List, Option, Some, None, fold, if◌then◌else◌}
 use Rattle.std.specs.Option.{option_and_then, option_map, option_map_or}
 use Rattle.dev_types.specs.Blocks.{with_part}
 use Rattle.dev_types.specs.DataTypes.{byte_size, is_object_type}

@@ -1,6 +1,6 @@
 -- The history of a trace on one thread: phase after phase, the first caller that has a call left makes it, and a flight that is asked for is
 -- finished first.
-use Rattle.std.specs.Prelude.{ℕ, ◌+◌, Bool, List, [], ◌∷◌, ◌++◌, Option, Some, None, fold, length, map, if◌then◌else◌}
+use Rattle.std.specs.Prelude.{ℕ, List, [], ◌∷◌, ◌++◌, Option, Some, None, fold, length, if◌then◌else◌}
 use Rattle.std.specs.List.{enumerate_from, filter, range_with_len}
 use Rattle.std.specs.Option.{option_map, option_map_or, option_to_list, unwrap_or}
 use Rattle.replay_core.specs.Labels.{Binding, Meaning, call_of, handle_of, label_of}

@@ -2,3 +2,6 @@
 #![tactic(auto)]
 
 pub mod examples;
+pub mod prints;
+
+pub use prints::Print;
