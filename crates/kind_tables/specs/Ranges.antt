@@ -1,6 +1,6 @@
 -- Which values of which parameters are in range, and in which order they are asked within one visit (ANARI 1.0 Specification, the tables
 -- of parameters). A value is the committed one, or the default.
-use Rattle.std.specs.Prelude.{ℕ, ℤ, pos, Bool, true, not, ◌&&◌, ◌==◌, ◌^◌, ◌++◌, nat_le, nat_lt, int_le, List, [], ◌∷◌, Option, Some, None, codes, length, map, take}
+use Rattle.std.specs.Prelude.{ℕ, ℤ, pos, Bool, true, not, ◌&&◌, ◌==◌, ◌^◌, ◌++◌, nat_le, nat_lt, int_le, List, [], ◌∷◌, Option, Some, None, codes, length, take}
 use Rattle.std.specs.Int.{is_in_range}
 use Rattle.std.specs.List.{find, flat_map, list_all}
 use Rattle.std.specs.Option.{option_map}

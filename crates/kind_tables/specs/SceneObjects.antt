@@ -1,10 +1,10 @@
 -- The objects of a device as a scene sees them, and the values of their parameters (ANARI 1.0 Specification, object parameters and commit).
 use Rattle.std.specs.Prelude.{ℕ, ℤ, zero, suc, pos, Bool, List, [], ◌∷◌, Option, Some, None, map, slice_index_or}
-use Rattle.std.specs.BTreeMap.{is_at}
+use Rattle.std.specs.BTreeMap.{insert_entry, is_at}
 use Rattle.std.specs.Cmp.Lexicographic.{slice_cmp}
 use Rattle.std.specs.List.{range_with_len}
 use Rattle.std.specs.List.{filter_map}
-use Rattle.std.specs.Map.{lookup}
+use Rattle.std.specs.Map.{lookup, remove_entry}
 use Rattle.std.specs.Option.{option_and_then, option_map, option_or}
 use Rattle.std.specs.Ordering.{nat_cmp}
 use Rattle.dev_types.specs.Blocks.{element_of}
@@ -43,6 +43,13 @@ object_at objects h = lookup (is_at (nat_cmp h)) objects
 abbrev pub value_named : List ℕ → List (List ℕ × Value) → Option Value
 value_named name values = lookup (is_at (slice_cmp nat_cmp name)) values
 
+-- a map of parameters with a value under a name, and without one
+abbrev pub with_value : List ℕ → Value → List (List ℕ × Value) → List (List ℕ × Value)
+with_value name v values = insert_entry (slice_cmp nat_cmp) values name v
+
+abbrev pub without_value : List ℕ → List (List ℕ × Value) → List (List ℕ × Value)
+without_value name values = remove_entry (is_at (slice_cmp nat_cmp name)) values
+
 -- the default of a parameter, if its row has one
 abbrev pub default_of : Kind → List ℕ → Option Value
 default_of kind name = option_and_then (λ row. row.default) (row_of kind name)
@@ -56,6 +63,10 @@ abbrev pub object_in : Value → Option ℕ
 object_in (Object _ zero) = None
 object_in (Object _ (suc h)) = Some (suc h)
 object_in _ = None
+
+-- the objects that the values of a map of parameters name, once for each and in the order of their names
+abbrev pub objects_of : List (List ℕ × Value) → List ℕ
+objects_of values = filter_map (λ entry. object_in entry.1) values
 
 -- the object that was committed under a name
 abbrev pub object_named : SceneObjects → SceneObject → List ℕ → Option SceneObject

@@ -15,8 +15,8 @@ use Rattle.std.proofs.lemmas.List.Sums.{sum_by-append}
 use Rattle.std.proofs.lemmas.Map.{lookup-none}
 use Rattle.std.proofs.lemmas.Map.Entries.{none_below_head}
 use Rattle.dev_types.specs.declared.values.Value.{Value}
-use Rattle.kind_tables.specs.SceneObjects.{object_in}
-use Rattle.param_stage.specs.Params.{Values, ParamMaps, objects_of, object_under, with_value, without_value, times, Accounts}
+use Rattle.kind_tables.specs.SceneObjects.{object_in, objects_of, with_value, without_value}
+use Rattle.param_stage.specs.Params.{Values, ParamMaps, object_under, times, Accounts}
 
 -- lists in a row
 times-append : (xs ys : List ℕ) (h : ℕ) → times h (xs ++ ys) ≡ times h xs + times h ys

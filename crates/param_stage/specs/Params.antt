@@ -1,14 +1,9 @@
 -- The parameters of an object: what is set, what was committed, and the objects that these name (ANARI 1.0 Specification, object
 -- parameters and commit).
 use Rattle.std.specs.Prelude.{◌≡◌, ℕ, ◌+◌, ◌==◌, List, ◌++◌, option_and_then, count_by}
-use Rattle.std.specs.BTreeMap.{insert_entry, is_at}
-use Rattle.std.specs.Cmp.Lexicographic.{slice_cmp}
-use Rattle.std.specs.List.{filter_map}
-use Rattle.std.specs.Map.{remove_entry}
 use Rattle.std.specs.Option.{option_to_list}
-use Rattle.std.specs.Ordering.{nat_cmp}
 use Rattle.dev_types.specs.declared.values.Value.{Value}
-use Rattle.kind_tables.specs.SceneObjects.{object_in, value_named}
+use Rattle.kind_tables.specs.SceneObjects.{object_in, objects_of, value_named}
 
 -- values by name, in the order of the names' bytes
 abbrev pub Values : Type 0
@@ -18,17 +13,6 @@ Values = List (List ℕ × Value)
 pub record ParamMaps : Type 0 where
   pub staged : Values
   pub committed : Values
-
--- the values with this one under a name, and with none
-abbrev pub with_value : List ℕ → Value → Values → Values
-with_value name v values = insert_entry (slice_cmp nat_cmp) values name v
-
-abbrev pub without_value : List ℕ → Values → Values
-without_value name values = remove_entry (is_at (slice_cmp nat_cmp name)) values
-
--- the objects that the values name, once for each and in the order of the values' names
-abbrev pub objects_of : Values → List ℕ
-objects_of values = filter_map (λ entry. object_in entry.1) values
 
 -- the object that the value under a name names: one or none
 abbrev pub object_under : List ℕ → Values → List ℕ

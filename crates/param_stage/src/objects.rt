@@ -1,8 +1,8 @@
 //! The objects that values name.
 ghost use Rattle.std.specs.Prelude.{◌≡◌, ◌<◌, ◌^◌, IfOk, length, slice_get};
 ghost use Rattle.std.specs.Option.{option_to_list};
-ghost use Rattle.kind_tables.specs.SceneObjects.{object_in};
-ghost use Rattle.param_stage.specs.Params.{objects_of, object_under};
+ghost use Rattle.kind_tables.specs.SceneObjects.{object_in, objects_of};
+ghost use Rattle.param_stage.specs.Params.{object_under};
 
 use crate::handles::HandleList;
 use dev_types::{Handle, Name, Value};

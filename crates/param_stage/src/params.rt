@@ -1,8 +1,8 @@
 //! The two maps.
 ghost use Rattle.std.specs.Prelude.{◌≡◌, [], ◌<◌, Some, IfOk, OnOk, OnErr, length, slice_get, option_copied};
 ghost use Rattle.std.specs.Option.{option_to_list};
-ghost use Rattle.kind_tables.specs.SceneObjects.{object_in, value_named};
-ghost use Rattle.param_stage.specs.Params.{with_value, without_value, object_under, objects_of, named, Accounts};
+ghost use Rattle.kind_tables.specs.SceneObjects.{object_in, objects_of, value_named, with_value, without_value};
+ghost use Rattle.param_stage.specs.Params.{object_under, named, Accounts};
 
 use crate::handles::{HandleList, Named};
 use crate::objects::{self, Values};

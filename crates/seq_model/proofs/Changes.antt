@@ -17,13 +17,14 @@ use Rattle.kind_tables.specs.declared.kinds.Kind.{Kind}
 use Rattle.seq_model.proofs.Keys.{at, at_changed, at_unchanged}
 use Rattle.seq_model.specs.Histories.{rendered}
 use Rattle.seq_model.specs.State.{ArrayState, Object, ParameterLoan, Empty, Flight, Done, State, changed_at, object_at, parameter_loan, with_object}
-use Rattle.seq_model.specs.Steps.{change, change_array, commit, discard, effect, end_flights, end_parameter_loan, fresh, fresh_array, holding, lend_parameter, lent, map_channel, set_phase, set_staged, take_in, unmap_channel, unmap_parameter, with_value, without_value}
+use Rattle.seq_model.specs.Steps.{change, change_array, commit, discard, effect, end_flights, end_parameter_loan, fresh, fresh_array, holding, lend_parameter, lent, map_channel, set_phase, set_staged, take_in, unmap_channel, unmap_parameter}
 use Rattle.seq_model.specs.declared.calls.Call.{Call}
 use Rattle.seq_model.specs.declared.calls.Call.TheVariants.{NewObject, NewArray, SetParameter, UnsetParameter, UnsetAll, Commit, MapArray, UnmapArray, MapParameterArray, UnmapParameterArray, RenderFrame, DiscardFrame, MapFrame, UnmapFrame}
 use Rattle.seq_model.specs.declared.calls.Entry.{Entry}
 use Rattle.seq_model.specs.declared.calls.Entry.TheVariants.{Called, Finished, Left, Closed}
 use Rattle.seq_model.specs.declared.calls.Reply.{Reply}
 use Rattle.seq_model.specs.declared.calls.Reply.TheVariants as reply
+use Rattle.kind_tables.specs.SceneObjects.{with_value, without_value}
 
 -- the array's memory is the application's, and goes back to it by a deleter
 abbrev pub is_captured_origin : Origin → Bool

@@ -29,13 +29,14 @@ use Rattle.seq_model.specs.Histories.{History}
 use Rattle.seq_model.specs.Legal.{IsInPlace, Legal}
 use Rattle.seq_model.specs.Refusals.{is_same_channel, mapped_at, refusal, refusals_of, refusals_of_map_frame}
 use Rattle.seq_model.specs.State.{Object, ParameterLoan, Empty, Flight, Done, State, changed_at, content_of_loan, object_at, parameter_loan, with_object}
-use Rattle.seq_model.specs.Steps.{Past, after, change, change_array, commit, effect, end_flights, end_parameter_loan, fresh, fresh_array, holding, lend_parameter, lent, map_channel, next_place, set_phase, set_staged, step, take_in, unmap_channel, unmap_parameter, with_value, without_value}
+use Rattle.seq_model.specs.Steps.{Past, after, change, change_array, commit, effect, end_flights, end_parameter_loan, fresh, fresh_array, holding, lend_parameter, lent, map_channel, next_place, set_phase, set_staged, step, take_in, unmap_channel, unmap_parameter}
 use Rattle.seq_model.specs.declared.calls.Call.{Call}
 use Rattle.seq_model.specs.declared.calls.Call.TheVariants.{NewObject, NewArray, SetParameter, UnsetParameter, UnsetAll, Commit, MapArray, UnmapArray, MapParameterArray, UnmapParameterArray, RenderFrame, DiscardFrame, MapFrame, UnmapFrame}
 use Rattle.seq_model.specs.declared.calls.Entry.{Entry}
 use Rattle.seq_model.specs.declared.calls.Entry.TheVariants.{Called, Finished, Left, Closed}
 use Rattle.seq_model.specs.declared.calls.Reply.{Reply}
 use Rattle.seq_model.specs.declared.calls.Reply.TheVariants as reply
+use Rattle.kind_tables.specs.SceneObjects.{with_value, without_value}
 
 -- how often a channel is mapped
 abbrev pub times_mapped : Channel → List (Channel × ℕ) → ℕ

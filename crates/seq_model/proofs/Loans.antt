@@ -19,13 +19,14 @@ use Rattle.seq_model.proofs.Keys.{RisesWithin, at, at_map, rises_from_lower, ris
 use Rattle.seq_model.proofs.Sweeps.{place_after}
 use Rattle.seq_model.specs.Histories.{History}
 use Rattle.seq_model.specs.State.{ArrayState, Object, ParameterLoan, Phase, Empty, Flight, Done, State, changed_at, content_of_loan, object_at, parameter_loan, with_object}
-use Rattle.seq_model.specs.Steps.{Past, after, change, change_array, commit, discard, effect, end_flight, end_flights, end_parameter_loan, fresh, fresh_array, holding, lend_parameter, lent, map_channel, set_phase, set_staged, step, stop, take_in, unmap_channel, unmap_parameter, with_value, without_value}
+use Rattle.seq_model.specs.Steps.{Past, after, change, change_array, commit, discard, effect, end_flight, end_flights, end_parameter_loan, fresh, fresh_array, holding, lend_parameter, lent, map_channel, set_phase, set_staged, step, stop, take_in, unmap_channel, unmap_parameter}
 use Rattle.seq_model.specs.declared.calls.Call.{Call}
 use Rattle.seq_model.specs.declared.calls.Call.TheVariants.{NewObject, NewArray, SetParameter, UnsetParameter, UnsetAll, Commit, MapArray, UnmapArray, MapParameterArray, UnmapParameterArray, RenderFrame, DiscardFrame, MapFrame, UnmapFrame}
 use Rattle.seq_model.specs.declared.calls.Entry.{Entry}
 use Rattle.seq_model.specs.declared.calls.Entry.TheVariants.{Called, Finished, Left, Closed}
 use Rattle.seq_model.specs.declared.calls.Reply.{Reply}
 use Rattle.seq_model.specs.declared.calls.Reply.TheVariants as reply
+use Rattle.kind_tables.specs.SceneObjects.{with_value, without_value}
 
 -- the numbers of the arrays that are written for an object's parameters, and of its channels
 abbrev pub parameter_numbers : Object → List ℕ

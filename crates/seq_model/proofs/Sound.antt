@@ -10,7 +10,7 @@ use Rattle.dev_types.specs.declared.values.Value.{Value}
 use Rattle.kind_tables.specs.Kinds.{type_of_kind}
 use Rattle.kind_tables.specs.Ranks.{rank_of}
 use Rattle.kind_tables.specs.Rows.{row_of}
-use Rattle.kind_tables.specs.SceneObjects.{object_in, objects_in}
+use Rattle.kind_tables.specs.SceneObjects.{object_in, objects_in, objects_of}
 use Rattle.kind_tables.specs.declared.kinds.Kind.{Kind}
 use Rattle.kind_tables.specs.declared.kinds.Kind.TheVariants.{Array}
 use Rattle.kind_tables.specs.declared.rows.Row.{Row}
@@ -18,7 +18,7 @@ use Rattle.seq_model.proofs.Changes.{changed_here, others_unchanged}
 use Rattle.seq_model.proofs.Came.{added, end_is}
 use Rattle.seq_model.proofs.Keys.{at, at_append, at_map}
 use Rattle.seq_model.proofs.Tables.{element_lower, takes_lower}
-use Rattle.seq_model.specs.Life.{has, names_of, objects_of, objects_of_elements}
+use Rattle.seq_model.specs.Life.{has, names_of, objects_of_elements}
 use Rattle.seq_model.specs.Soundness.{AllFit, AllSound, ArrayFits, Fits, IsSound, NamesFitting, Takes}
 use Rattle.seq_model.specs.State.{ArrayState, Object, Phase, Flight, State, changed_at, object_at, with_object}
 use Rattle.seq_model.specs.Steps.{end_flight, end_flights, set_phase}

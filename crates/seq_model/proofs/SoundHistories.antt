@@ -14,7 +14,7 @@ use Rattle.dev_types.specs.declared.values.Value.{Value}
 use Rattle.dev_types.specs.declared.values.Value.TheVariants as value
 use Rattle.kind_tables.specs.Kinds.{kind_of}
 use Rattle.kind_tables.specs.Rows.{row_of}
-use Rattle.kind_tables.specs.SceneObjects.{object_in}
+use Rattle.kind_tables.specs.SceneObjects.{object_in, with_value, without_value}
 use Rattle.kind_tables.specs.declared.kinds.Kind.{Kind}
 use Rattle.kind_tables.specs.declared.kinds.Kind.TheVariants.{Array}
 use Rattle.kind_tables.specs.declared.rows.Row.{Row}
@@ -36,7 +36,7 @@ use Rattle.seq_model.specs.Life.{has, names_of}
 use Rattle.seq_model.specs.Refusals.{is_parameter_loan_out, is_parameter_out, refusal}
 use Rattle.seq_model.specs.Soundness.{AllSound, Fits, IsSound, LoanFits, NamesFitting, Takes}
 use Rattle.seq_model.specs.State.{Object, ParameterLoan, Phase, Empty, Flight, Done, State, changed_at, content_of_loan, object_at, parameter_loan, with_object}
-use Rattle.seq_model.specs.Steps.{Past, after, change, change_array, commit, discard, effect, end_flights, end_parameter_loan, fresh, fresh_array, holding, lend_parameter, lent, map_channel, next_place, set_phase, set_staged, step, stop, swept, take_in, unmap_channel, unmap_parameter, with_value, without_value}
+use Rattle.seq_model.specs.Steps.{Past, after, change, change_array, commit, discard, effect, end_flights, end_parameter_loan, fresh, fresh_array, holding, lend_parameter, lent, map_channel, next_place, set_phase, set_staged, step, stop, swept, take_in, unmap_channel, unmap_parameter}
 use Rattle.seq_model.specs.declared.calls.Call.{Call}
 use Rattle.seq_model.specs.declared.calls.Call.TheVariants.{NewObject, NewArray, SetParameter, UnsetParameter, UnsetAll, Commit, MapArray, UnmapArray, MapParameterArray, UnmapParameterArray, RenderFrame, DiscardFrame, MapFrame, UnmapFrame}
 use Rattle.seq_model.specs.declared.calls.Entry.{Entry}

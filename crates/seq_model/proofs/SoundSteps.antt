@@ -20,7 +20,7 @@ use Rattle.dev_types.specs.declared.values.Value.{Value}
 use Rattle.dev_types.specs.declared.values.Value.TheVariants as value
 use Rattle.kind_tables.specs.Kinds.{is_same_type, type_of_kind}
 use Rattle.kind_tables.specs.Rows.{row_of}
-use Rattle.kind_tables.specs.SceneObjects.{object_in, objects_in}
+use Rattle.kind_tables.specs.SceneObjects.{object_in, objects_in, with_value}
 use Rattle.kind_tables.specs.declared.kinds.Kind.{Kind}
 use Rattle.kind_tables.specs.declared.kinds.Kind.TheVariants.{Array}
 use Rattle.kind_tables.specs.declared.rows.Row.{Row}
@@ -30,7 +30,7 @@ use Rattle.seq_model.proofs.Tables.{same_type}
 use Rattle.seq_model.specs.Refusals.{dead, has_elements, has_type, object_of_value, permits, refusal, refusals_of, refusals_of_map_parameter, refusals_of_set, row_at, takes_arrays_of, wrong_kind, wrong_value}
 use Rattle.seq_model.specs.Soundness.{AllSound, ArrayFits, Fits, IsSound, LoanFits, NamesFitting, Takes}
 use Rattle.seq_model.specs.State.{ArrayState, Object, object_at}
-use Rattle.seq_model.specs.Steps.{Past, with_value, zeros}
+use Rattle.seq_model.specs.Steps.{Past, zeros}
 use Rattle.seq_model.specs.declared.calls.Call.TheVariants.{SetParameter, MapParameterArray}
 
 -- maps of parameters

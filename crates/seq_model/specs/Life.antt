@@ -1,9 +1,8 @@
 -- Which objects live: those that can be reached from public references, loans and flights (ANARI 1.0 Specification, object lifetime).
 use Rattle.std.specs.Prelude.{ℕ, zero, suc, ◌+◌, ◌==◌, ◌||◌, nat_lt, Bool, List, [], ◌++◌, Option, count_by, length, map}
-use Rattle.std.specs.List.{filter, filter_map, list_any, sum_by}
+use Rattle.std.specs.List.{filter, list_any, sum_by}
 use Rattle.std.specs.Option.{option_map, option_map_or, unwrap_or}
-use Rattle.dev_types.specs.declared.values.Value.{Value}
-use Rattle.kind_tables.specs.SceneObjects.{object_in, objects_in}
+use Rattle.kind_tables.specs.SceneObjects.{objects_in, objects_of}
 use Rattle.seq_model.specs.State.{ArrayState, Object, State, array_loan, flights}
 
 -- whether a list has a number
@@ -13,10 +12,6 @@ has h list = list_any (λ k. k == h) list
 -- how often a list has a number
 abbrev pub times : ℕ → List ℕ → ℕ
 times h list = count_by (λ k. k == h) list
-
--- the objects that the values of a map of parameters name
-abbrev pub objects_of : List (List ℕ × Value) → List ℕ
-objects_of values = filter_map (λ entry. object_in entry.1) values
 
 -- the objects that the elements of an array name
 abbrev pub objects_of_elements : Option ArrayState → List ℕ

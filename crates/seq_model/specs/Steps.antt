@@ -1,9 +1,8 @@
 -- What each entry of a history does to the state (ANARI 1.0 Specification, the calls of the API).
 use Rattle.std.specs.Prelude.{ℕ, ◌+◌, ◌==◌, not, Bool, List, [], ◌∷◌, ◌++◌, Option, Some, None, fold, length, map, replicate, if◌then◌else◌}
-use Rattle.std.specs.BTreeMap.{insert_entry, is_at}
-use Rattle.std.specs.Cmp.Lexicographic.{slice_cmp}
+use Rattle.std.specs.BTreeMap.{is_at}
 use Rattle.std.specs.List.{filter, list_any}
-use Rattle.std.specs.Map.{lookup, remove_entry}
+use Rattle.std.specs.Map.{lookup}
 use Rattle.std.specs.Option.{option_and_then, option_map, option_map_or, unwrap_or}
 use Rattle.std.specs.Ordering.{nat_cmp}
 use Rattle.dev_types.specs.Blocks.{needed_length}
@@ -27,6 +26,7 @@ use Rattle.seq_model.specs.declared.calls.Entry.{Entry}
 use Rattle.seq_model.specs.declared.calls.Entry.TheVariants.{Called, Finished, Left, Closed}
 use Rattle.seq_model.specs.declared.calls.Reply.{Reply}
 use Rattle.seq_model.specs.declared.calls.Reply.TheVariants as reply
+use Rattle.kind_tables.specs.SceneObjects.{with_value, without_value}
 
 -- an object as it is made
 abbrev pub fresh : Kind → Option ArrayState → Object
@@ -48,13 +48,6 @@ fresh_array elem count stride origin bytes = fresh (Array elem) (Some (record {
   origin = origin;
   loan = None;
 }))
-
--- a map of parameters with a value under a name, and without one
-abbrev pub with_value : List ℕ → Value → List (List ℕ × Value) → List (List ℕ × Value)
-with_value name v values = insert_entry (slice_cmp nat_cmp) values name v
-
-abbrev pub without_value : List ℕ → List (List ℕ × Value) → List (List ℕ × Value)
-without_value name values = remove_entry (is_at (slice_cmp nat_cmp name)) values
 
 -- an array that is lent by the entry at a place, and one that has this content and is not lent
 abbrev pub lent : ℕ → ArrayState → ArrayState
