@@ -1,5 +1,5 @@
 -- Which histories follow a trace: each caller's calls stand in it once, in its order, with the labels replaced, and phases come one after the
--- other. Notes may stand anywhere.
+-- other. Entries that are no calls may stand anywhere.
 use Rattle.std.specs.Prelude.{◌≡◌, ℕ, ◌+◌, Bool, true, false, List, [], ◌∷◌, ◌++◌, Option, Some, None, IsTrue, drop, map, slice_get, slice_set, if◌then◌else◌}
 use Rattle.std.specs.List.{last_or, list_all}
 use Rattle.std.specs.Option.{option_and_then, option_map_or}
@@ -97,12 +97,12 @@ after_call past rest actor r caller =
     begun rest.phases rest.phase (slice_set rest.callers actor (gone_on past (meaning_to rest actor) r caller))
     (rest.bound ++ bound_by rest.phase actor r caller.calls)
 
--- what is left after an entry; a note leaves it as it is
+-- what is left after an entry; one that is no call leaves it as it is
 abbrev pub rest_after : Past → Rest → Entry → Rest
 rest_after past rest (Called actor call r) = option_map_or (after_call past rest actor r) (slice_get rest.callers actor) rest
 rest_after past rest _ = rest
 
--- an entry fits what is left: it is the next call of its caller, or a note
+-- an entry fits what is left: it is the next call of its caller, or no call
 abbrev pub Fits : Past → Rest → Entry → Type 0
 Fits past rest (Called actor call r) = next_call past rest actor ≡ Some call
 Fits past rest _ = Unit {0}

@@ -54,7 +54,7 @@ spread stride [] = []
 spread stride (part ∷ []) = part
 spread stride (part ∷ next ∷ parts) = part ++ zeros (stride - length part) ++ spread stride (next ∷ parts)
 
--- the block that is given for an array; for one that the device makes itself, and for one that it refuses for its elements or their layout,
+-- the block that is given for an array; for one that the device makes itself, and for one that it refuses for the type of its elements or their layout,
 -- it is empty
 abbrev pub given_bytes : Meaning → DataType → ℕ → ℕ → Origin → ArrayData → List ℕ
 given_bytes meaning elem count stride Managed given = []

@@ -46,7 +46,7 @@ content_of past h = option_map (λ a. a.block) (option_and_then (λ o. o.array) 
 abbrev pub new_content : DataType → ℕ → Block
 new_content elem count = record { elem = elem; count = count; stride = byte_size elem; bytes = zeros (count * byte_size elem) }
 
--- the unmap that will end a loan, with what was written into it, where the reply granted one
+-- the unmap that will end a loan, as it is handed in, with what was written into it, where the reply granted one
 abbrev pub unmap_of : Past → Meaning → TraceCall → Reply → Option Call
 unmap_of past meaning (WithArray array write) (reply.Lent number) =
     option_map (λ b. call.UnmapArray (meaning array) number (written meaning write b).bytes) (content_of past (meaning array))
