@@ -1,0 +1,2 @@
+pub mod Blends
+pub mod Frames

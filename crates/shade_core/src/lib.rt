@@ -1,0 +1,10 @@
+//! The ray of a pixel and the colour of what it meets, equal to the rules of the picture. A camera is prepared once a frame; a
+//! pixel's colour is gathered hit by hit from front to back.
+#![tactic(auto)]
+
+mod cameras;
+mod shading;
+
+pub use cameras::{PreparedCamera, camera_ray};
+pub use picture_model::{Blend, HitRow};
+pub use shading::to_byte;
