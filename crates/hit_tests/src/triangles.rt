@@ -1,9 +1,14 @@
-ghost use Rattle.std.specs.Prelude.{◌≡◌};
+ghost use Rattle.std.specs.Prelude.{◌≡◌, ◌^◌, ◌≤◌, pos, ◌<ℤ◌, unsigned_abs};
+ghost use Rattle.fx_math.specs.Vec3.{dot, reach};
 ghost use Rattle.fx_math.specs.declared.scene.Shape.TheVariants.{Triangle};
+ghost use Rattle.hit_tests.specs.Fractions.{depth_number, turned_by};
 ghost use Rattle.picture_model.specs.Depths.{depth};
 ghost use Rattle.picture_model.specs.Limits.{IsRayWithin, IsTriangleWithin};
 
-use fx_math::{Ray, Shape, Vec3};
+use fx_math::{Ray, Vec3, cross, dot, sub};
+
+/// The greatest depth number.
+const FARTHEST: u128 = 1 << 32;
 
 /// The depth number of the ray's hit with the triangle of these three points, on either of its sides and up to its edges: how
 /// often the ray's direction goes into the way to the hit, in 1/65536, rounded down, from 0 to 2^32. None where the ray misses
@@ -15,5 +20,52 @@ pub fn triangle(ray: &Ray, a: Vec3, b: Vec3, c: Vec3) -> Option<u64>
     requires triangle { IsTriangleWithin a b c }
     ensures { result ≡ depth ray.now (Triangle a b c) }
 {
-    picture_model::depth(ray, &Shape::Triangle(a, b, c))
+    let e1 = sub(b, a);
+    let e2 = sub(c, a);
+    let across = cross(ray.d, e2);
+    let det = dot(e1, across);
+    if det == 0 {
+        return None;
+    }
+    let turn = det < 0;
+    let det = turned(turn, det);
+    let from_a = sub(ray.o, a);
+    let p = turned(turn, dot(from_a, across));
+    if p < 0 || det < p {
+        return None;
+    }
+    let along = cross(from_a, e1);
+    let q = turned(turn, dot(ray.d, along));
+    if q < 0 || det < p + q {
+        return None;
+    }
+    depth_number(turned(turn, dot(e2, along)), det)
+}
+
+/// `z`, with its sign turned where `turn`.
+#[tactic(auto, unfolding(crate::specs::Fractions::turned_by))]
+fn turned(turn: bool, z: i128) -> i128
+    requires { unsigned_abs z ≤ 2 ^ 96 }
+    ensures value { result ≡ turned_by turn z }
+    ensures size { unsigned_abs result ≤ 2 ^ 96 }
+{
+    if turn { -z } else { z }
+}
+
+/// The depth number of the ray's point at `t / det`, if that is not behind the ray's origin and not too far.
+#[tactic(auto, unfolding(crate::specs::Fractions::depth_number))]
+fn depth_number(t: i128, det: i128) -> Option<u64>
+    requires positive { pos 0 <ℤ det }
+    requires room { unsigned_abs t ≤ 2 ^ 96 }
+    ensures { result ≡ depth_number t det }
+{
+    if t < 0 {
+        return None;
+    }
+    let depth = 65536 * t.unsigned_abs() / det.unsigned_abs();
+    if depth <= FARTHEST {
+        Some(depth as u64)
+    } else {
+        None
+    }
 }
