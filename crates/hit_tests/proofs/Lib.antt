@@ -1,1 +1,3 @@
+pub mod Balls
+pub mod Entries
 pub mod TripleProducts
