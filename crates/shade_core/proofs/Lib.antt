@@ -1,2 +1,4 @@
+pub mod Blends
 pub mod Preparations
+pub mod Shares
 pub mod Spans

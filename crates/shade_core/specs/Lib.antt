@@ -1,2 +1,3 @@
 pub mod Blends
 pub mod Frames
+pub mod Lights

@@ -3,8 +3,10 @@
 #![tactic(auto)]
 
 mod cameras;
+mod lights;
 mod shading;
+mod surfaces;
 
 pub use cameras::{PreparedCamera, camera_ray};
 pub use picture_model::{Blend, HitRow};
-pub use shading::to_byte;
+pub use shading::{blend_hit, finish_blend, to_byte};
