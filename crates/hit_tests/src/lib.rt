@@ -3,6 +3,8 @@
 #![tactic(auto)]
 
 mod spheres;
+#[cfg(test)]
+mod tests;
 mod triangles;
 
 pub use spheres::sphere;
