@@ -1,3 +1,4 @@
 pub mod Balls
+pub mod Divisions
 pub mod Entries
 pub mod TripleProducts

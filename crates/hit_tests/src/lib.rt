@@ -2,6 +2,7 @@
 //! keep vector products within 64 bits and scalar products within 128.
 #![tactic(auto)]
 
+mod quotients;
 mod spheres;
 #[cfg(test)]
 mod tests;

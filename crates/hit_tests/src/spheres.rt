@@ -5,6 +5,7 @@ ghost use Rattle.hit_tests.specs.Approaches.{IsApproachWithin, entry, is_inside}
 ghost use Rattle.picture_model.specs.Depths.{depth};
 ghost use Rattle.picture_model.specs.Limits.{IsRayWithin, IsSphereWithin};
 
+use crate::quotients::quotient;
 use fx_math::{Ray, Vec3, dot, isqrt, sub};
 
 /// The greatest depth number.
@@ -71,7 +72,7 @@ fn entry(a: &Approach) -> Option<u64>
         return None;
     }
     let root = long_root(a.square, nearest - away);
-    let first = (65536 * a.toward as u128 - root - 1) / a.square as u128;
+    let first = quotient(65536 * a.toward as u128 - root - 1, a.square as u128);
     if first > FARTHEST as u128 {
         return None;
     }

@@ -5,6 +5,7 @@ ghost use Rattle.hit_tests.specs.Fractions.{depth_number, turned_by};
 ghost use Rattle.picture_model.specs.Depths.{depth};
 ghost use Rattle.picture_model.specs.Limits.{IsRayWithin, IsTriangleWithin};
 
+use crate::quotients::quotient;
 use fx_math::{Ray, Vec3, cross, dot, sub};
 
 /// The greatest depth number.
@@ -62,7 +63,7 @@ fn depth_number(t: i128, det: i128) -> Option<u64>
     if t < 0 {
         return None;
     }
-    let depth = 65536 * t.unsigned_abs() / det.unsigned_abs();
+    let depth = quotient(65536 * t.unsigned_abs(), det.unsigned_abs());
     if depth <= FARTHEST {
         Some(depth as u64)
     } else {
