@@ -90,7 +90,7 @@ fn entry(a: &Approach) -> Option<u64>
     }
 }
 
-/// 65536 times the root of `n`, or less by at most `slack`.
+/// 65536 times the root of `n`, or less by at most `slack`: the root of no more of the upper digits than that takes.
 fn long_root(slack: u64, n: u128) -> u128
     requires slack { 0 < slack }
     requires room { n < 2 ^ 118 }
@@ -100,10 +100,17 @@ fn long_root(slack: u64, n: u128) -> u128
     ensures size { result < 2 ^ 80 }
 {
     if slack < 65536 {
-        isqrt(0x1_0000_0000 * n)
-    } else {
-        65536 * isqrt(n)
+        return isqrt(0x1_0000_0000 * n);
     }
+    let digits = slack.ilog2() - 16;
+    65536 * isqrt(n >> (2 * digits)) * power(digits)
+}
+
+fn power(digits: u32) -> u128
+    requires { digits < 64 }
+    ensures { result ≡ 2 ^ digits }
+{
+    1 << digits
 }
 
 /// The ray's point at `s` lies in the ball.
