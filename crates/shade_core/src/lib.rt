@@ -6,6 +6,8 @@ mod cameras;
 mod lights;
 mod shading;
 mod surfaces;
+#[cfg(test)]
+mod tests;
 
 pub use cameras::{PreparedCamera, camera_ray};
 pub use picture_model::{Blend, HitRow};
