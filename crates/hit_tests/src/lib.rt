@@ -10,3 +10,6 @@ mod triangles;
 
 pub use spheres::sphere;
 pub use triangles::triangle;
+
+/// The greatest depth number.
+const FARTHEST: u64 = 1 << 32;

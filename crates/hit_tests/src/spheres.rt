@@ -5,11 +5,9 @@ ghost use Rattle.hit_tests.specs.Approaches.{IsApproachWithin, entry, is_inside}
 ghost use Rattle.picture_model.specs.Depths.{depth};
 ghost use Rattle.picture_model.specs.Limits.{IsRayWithin, IsSphereWithin};
 
+use crate::FARTHEST;
 use crate::quotients::quotient;
 use fx_math::{Ray, Vec3, dot, isqrt, sub};
-
-/// The greatest depth number.
-const FARTHEST: u64 = 1 << 32;
 
 /// The depth number of the ray's hit with the ball round `centre`: the least whole number from 0 to 2^32 whose point on the ray
 /// lies in the ball, its surface included. So it is 0 where the ray starts in the ball, and None where the ray passes the ball, also
@@ -50,7 +48,7 @@ fn short_dot(a: Vec3, b: Vec3) -> i64
 /// A ray that starts outside a ball and comes nearer to it. With the way m from the ball's centre to the ray's origin, the
 /// direction d and the radius r, its point at the depth number s lies in the ball where
 /// `square * s * s + 2^32 * excess <= 2 * 65536 * toward * s`.
-#[derive(Clone, Copy, Debug)]
+#[derive(Clone, Copy)]
 struct Approach {
     /// d . d
     square: u64,

@@ -5,11 +5,9 @@ ghost use Rattle.hit_tests.specs.Fractions.{depth_number, turned_by};
 ghost use Rattle.picture_model.specs.Depths.{depth};
 ghost use Rattle.picture_model.specs.Limits.{IsRayWithin, IsTriangleWithin};
 
+use crate::FARTHEST;
 use crate::quotients::quotient;
 use fx_math::{Ray, Vec3, cross, dot, sub};
-
-/// The greatest depth number.
-const FARTHEST: u128 = 1 << 32;
 
 /// The depth number of the ray's hit with the triangle of these three points, on either of its sides and up to its edges: how
 /// often the ray's direction goes into the way to the hit, in 1/65536, rounded down, from 0 to 2^32. None where the ray misses
@@ -21,6 +19,7 @@ pub fn triangle(ray: &Ray, a: Vec3, b: Vec3, c: Vec3) -> Option<u64>
     requires triangle { IsTriangleWithin a b c }
     ensures { result ≡ depth ray.now (Triangle a b c) }
 {
+    // Two vector products serve all four triple products, and nothing is divided before the hit is certain.
     let e1 = sub(b, a);
     let e2 = sub(c, a);
     let across = cross(ray.d, e2);
@@ -64,7 +63,7 @@ fn depth_number(t: i128, det: i128) -> Option<u64>
         return None;
     }
     let depth = quotient(65536 * t.unsigned_abs(), det.unsigned_abs());
-    if depth <= FARTHEST {
+    if depth <= FARTHEST as u128 {
         Some(depth as u64)
     } else {
         None
