@@ -3,6 +3,7 @@
 #![tactic(auto)]
 
 mod cameras;
+mod laws;
 mod lights;
 mod shading;
 mod surfaces;
@@ -10,5 +11,6 @@ mod surfaces;
 mod tests;
 
 pub use cameras::{PreparedCamera, camera_ray};
+pub use laws::blended_hits_are_the_shade;
 pub use picture_model::{Blend, HitRow};
 pub use shading::{blend_hit, finish_blend, to_byte};
