@@ -1,4 +1,4 @@
-ghost use Rattle.std.specs.Prelude.{◌≡◌, ◌/◌, ◌^◌, ◌<◌};
+ghost use Rattle.std.specs.Prelude.{◌≡◌, ◌/◌, ◌<◌};
 
 /// `n / d`, rounded down. A division of 64 bits by the upper bits of both gives the quotient or a little less, mostly at most one
 /// less; what is then left tells the rest.

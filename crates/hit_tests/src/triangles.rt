@@ -30,16 +30,16 @@ pub fn triangle(ray: &Ray, a: Vec3, b: Vec3, c: Vec3) -> Option<u64>
     let turn = det < 0;
     let det = turned(turn, det);
     let from_a = sub(ray.o, a);
-    let p = part(turn, from_a, across);
+    let p = signed_dot(turn, from_a, across);
     if p < 0 || det < p {
         return None;
     }
     let along = cross(from_a, e1);
-    let q = part(turn, ray.d, along);
+    let q = signed_dot(turn, ray.d, along);
     if q < 0 || det < p + q {
         return None;
     }
-    depth_number(part(turn, e2, along), det)
+    depth_number(signed_dot(turn, e2, along), det)
 }
 
 /// `z`, with its sign turned where `turn`.
@@ -53,7 +53,7 @@ fn turned(turn: bool, z: i128) -> i128
 }
 
 /// The scalar product of `a` and `b`, with its sign turned where `turn`.
-fn part(turn: bool, a: Vec3, b: Vec3) -> i128
+fn signed_dot(turn: bool, a: Vec3, b: Vec3) -> i128
     requires first { reach a ≤ 2 ^ 31 }
     requires second { reach b ≤ 2 ^ 61 }
     ensures value { result ≡ turned_by turn (dot a b) }

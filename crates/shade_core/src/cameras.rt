@@ -1,4 +1,4 @@
-ghost use Rattle.std.specs.Prelude.{◌≡◌, ◌+◌, ◌*◌, ◌/◌, ◌^◌, ◌<◌, ◌≤◌, unsigned_abs};
+ghost use Rattle.std.specs.Prelude.{◌≡◌, ◌+◌, ◌*◌, ◌^◌, ◌<◌, ◌≤◌, unsigned_abs};
 ghost use Rattle.fx_math.specs.Vec3.{reach};
 ghost use Rattle.picture_model.specs.Limits.{AreAxesWithin, IsCameraWithin, IsRayWithin, IsSide};
 ghost use Rattle.picture_model.specs.Rays.{across, axes_of, camera_ray};

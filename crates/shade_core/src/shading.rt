@@ -1,6 +1,6 @@
-ghost use Rattle.std.specs.Prelude.{◌≡◌, ◌-◌, ◌*◌, ◌/◌, ◌^◌, ◌<◌, ◌≤◌, pos, ◌+ℤ◌, ◌≤ℤ◌, unsigned_abs};
+ghost use Rattle.std.specs.Prelude.{◌≡◌, ◌*◌, ◌/◌, ◌^◌, ◌<◌, ◌≤◌, pos, ◌≤ℤ◌, unsigned_abs};
 ghost use Rattle.picture_model.specs.Limits.{IsBetween, IsBlendWithin, IsColor, IsHitRowWithin, IsLightingWithin, IsRayWithin};
-ghost use Rattle.picture_model.specs.Shading.{blend_hit, component, finish_blend, shown, to_byte, weight};
+ghost use Rattle.picture_model.specs.Shading.{blend_hit, finish_blend, to_byte, weight};
 ghost use Rattle.shade_core.specs.Blends.{IsBlendUpTo};
 
 use crate::lights::{component, incoming};

@@ -1,5 +1,5 @@
-ghost use Rattle.std.specs.Prelude.{◌<◌, IfOk};
-ghost use Rattle.picture_model.specs.Limits.{IsBlendWithin, IsHitRowWithin, IsLightingWithin, IsRayWithin, IsSceneWithin};
+ghost use Rattle.std.specs.Prelude.{IfOk};
+ghost use Rattle.picture_model.specs.Limits.{IsBlendWithin, IsRayWithin, IsSceneWithin};
 
 use super::*;
 use fx_math::{

@@ -25,8 +25,8 @@ turned-det-requires c =
     rw (read_wide c.dot-det.result c.dot-det.type_inv)
     (dot_within c.dot-det.result (reach c.sub-e1.result) (reach c.cross-across.result) (2 ^ 31) (2 ^ 61) c.dot-det.ensures.size (omega arith) across (omega arith))
 
-pub part-p-requires-clause-second : goal.part-p-requires-clause-second
-part-p-requires-clause-second c =
+pub signed_dot-p-requires-clause-second : goal.signed_dot-p-requires-clause-second
+signed_dot-p-requires-clause-second c =
     cross_within (reach c.cross-across.result) (reach c.args.ray.now.d) (reach c.sub-e2.result) (2 ^ 25) (2 ^ 29) c.cross-across.ensures.size c.requires.ray.direction (omega arith) (omega arith)
 
 pub returns-then-p-lt0 : goal.returns-then-p-lt0
@@ -36,26 +36,26 @@ returns-then-p-lt0 c =
     let turn = int_lt (to_z w128 (of_z w128 c.dot-det.result)) (pos 0) in
     let sign = ap (λ z. int_lt z (pos 0)) (sym (read ∙ det)) in
     let det_is : c.turned-det.result ≡ (fractions turn c.args.ray.now c.args.a c.args.b c.args.c).det = c.turned-det.ensures.value ∙ ap (turned_by turn) (read ∙ det) in
-    let p_is : c.part-p.result ≡ (fractions turn c.args.ray.now c.args.a c.args.b c.args.c).p = cc in
+    let p_is : c.signed_dot-p.result ≡ (fractions turn c.args.ray.now c.args.a c.args.b c.args.c).p = cc in
     missed turn c.args.ray.now c.args.a c.args.b c.args.c sign
     (λ s at. elim c.then-p-lt0.branch [
-      | then-p-lt0-via-then-p-lt0 w ↦ negative c.part-p.result (rw (read_wide c.part-p.result c.part-p.type_inv) at w.if-p-lt0.true) (rw p_is at.first)
-      | then-p-lt0-via-else-p-lt0+then-det-p w ↦ too_far c.turned-det.result c.part-p.result _ (rw (read_wide c.turned-det.result c.turned-det.type_inv, read_wide c.part-p.result c.part-p.type_inv) at w.if-det-p.true) at.second (rw (det_is, p_is) at.third)
+      | then-p-lt0-via-then-p-lt0 w ↦ negative c.signed_dot-p.result (rw (read_wide c.signed_dot-p.result c.signed_dot-p.type_inv) at w.if-p-lt0.true) (rw p_is at.first)
+      | then-p-lt0-via-else-p-lt0+then-det-p w ↦ too_far c.turned-det.result c.signed_dot-p.result _ (rw (read_wide c.turned-det.result c.turned-det.type_inv, read_wide c.signed_dot-p.result c.signed_dot-p.type_inv) at w.if-det-p.true) at.second (rw (det_is, p_is) at.third)
     ])
 
 pub cross-along-requires : goal.cross-along-requires
 cross-along-requires c =
     product_within (reach c.sub-from_a.result) (reach c.sub-e1.result) (2 ^ 30 + 2 ^ 28) (2 ^ 29) (2 ^ 61) (omega arith) (omega arith) (omega arith)
 
-pub part-q-requires-clause-second : goal.part-q-requires-clause-second
-part-q-requires-clause-second c =
+pub signed_dot-q-requires-clause-second : goal.signed_dot-q-requires-clause-second
+signed_dot-q-requires-clause-second c =
     cross_within (reach c.cross-along.result) (reach c.sub-from_a.result) (reach c.sub-e1.result) (2 ^ 30 + 2 ^ 28) (2 ^ 29) c.cross-along.ensures.size (omega arith) (omega arith) (omega arith)
 
 pub overflow_add-p : goal.overflow_add-p
 overflow_add-p c =
-    let p_size = c.part-p.ensures.size in
-    let q_size = c.part-q.ensures.size in
-    rw (read_wide c.part-p.result c.part-p.type_inv, read_wide c.part-q.result c.part-q.type_inv) (omega (arith, ints))
+    let p_size = c.signed_dot-p.ensures.size in
+    let q_size = c.signed_dot-q.ensures.size in
+    rw (read_wide c.signed_dot-p.result c.signed_dot-p.type_inv, read_wide c.signed_dot-q.result c.signed_dot-q.type_inv) (omega (arith, ints))
 
 pub returns-then-q-lt0 : goal.returns-then-q-lt0
 returns-then-q-lt0 c =
@@ -64,18 +64,18 @@ returns-then-q-lt0 c =
     let turn = int_lt (to_z w128 (of_z w128 c.dot-det.result)) (pos 0) in
     let sign = ap (λ z. int_lt z (pos 0)) (sym (read ∙ det)) in
     let det_is : c.turned-det.result ≡ (fractions turn c.args.ray.now c.args.a c.args.b c.args.c).det = c.turned-det.ensures.value ∙ ap (turned_by turn) (read ∙ det) in
-    let p_is : c.part-p.result ≡ (fractions turn c.args.ray.now c.args.a c.args.b c.args.c).p = cc in
-    let q_is : c.part-q.result ≡ (fractions turn c.args.ray.now c.args.a c.args.b c.args.c).q = cc in
-    let p_size = c.part-p.ensures.size in
-    let q_size = c.part-q.ensures.size in
+    let p_is : c.signed_dot-p.result ≡ (fractions turn c.args.ray.now c.args.a c.args.b c.args.c).p = cc in
+    let q_is : c.signed_dot-q.result ≡ (fractions turn c.args.ray.now c.args.a c.args.b c.args.c).q = cc in
+    let p_size = c.signed_dot-p.ensures.size in
+    let q_size = c.signed_dot-q.ensures.size in
     missed turn c.args.ray.now c.args.a c.args.b c.args.c sign
     (λ s at. elim c.then-q-lt0.branch [
-      | then-q-lt0-via-then-q-lt0 w ↦ negative c.part-q.result (rw (read_wide c.part-q.result c.part-q.type_inv) at w.if-q-lt0.true) (rw q_is at.second)
-      | then-q-lt0-via-else-q-lt0+then-det-p-2 w ↦ sum_too_far c.turned-det.result c.part-p.result c.part-q.result (rw (read_wide c.turned-det.result c.turned-det.type_inv, read_wide_sum c.part-p.result c.part-q.result (omega arith) (omega arith)) at w.if-det-p-2.true) (rw (det_is, p_is, q_is) at.third)
+      | then-q-lt0-via-then-q-lt0 w ↦ negative c.signed_dot-q.result (rw (read_wide c.signed_dot-q.result c.signed_dot-q.type_inv) at w.if-q-lt0.true) (rw q_is at.second)
+      | then-q-lt0-via-else-q-lt0+then-det-p-2 w ↦ sum_too_far c.turned-det.result c.signed_dot-p.result c.signed_dot-q.result (rw (read_wide c.turned-det.result c.turned-det.type_inv, read_wide_sum c.signed_dot-p.result c.signed_dot-q.result (omega arith) (omega arith)) at w.if-det-p-2.true) (rw (det_is, p_is, q_is) at.third)
     ])
 
-pub part-requires-clause-second : goal.part-requires-clause-second
-part-requires-clause-second c =
+pub signed_dot-requires-clause-second : goal.signed_dot-requires-clause-second
+signed_dot-requires-clause-second c =
     cross_within (reach c.cross-along.result) (reach c.sub-from_a.result) (reach c.sub-e1.result) (2 ^ 30 + 2 ^ 28) (2 ^ 29) c.cross-along.ensures.size (omega arith) (omega arith) (omega arith)
 
 pub depth_number-requires-clause-positive : goal.depth_number-requires-clause-positive
@@ -92,16 +92,16 @@ returns c =
     let turn = int_lt (to_z w128 (of_z w128 c.dot-det.result)) (pos 0) in
     let sign = ap (λ z. int_lt z (pos 0)) (sym (read ∙ det)) in
     let det_is : c.turned-det.result ≡ (fractions turn c.args.ray.now c.args.a c.args.b c.args.c).det = c.turned-det.ensures.value ∙ ap (turned_by turn) (read ∙ det) in
-    let p_is : c.part-p.result ≡ (fractions turn c.args.ray.now c.args.a c.args.b c.args.c).p = cc in
-    let q_is : c.part-q.result ≡ (fractions turn c.args.ray.now c.args.a c.args.b c.args.c).q = cc in
-    let t_is : c.part.result ≡ (fractions turn c.args.ray.now c.args.a c.args.b c.args.c).t = cc in
-    let p_size = c.part-p.ensures.size in
-    let q_size = c.part-q.ensures.size in
+    let p_is : c.signed_dot-p.result ≡ (fractions turn c.args.ray.now c.args.a c.args.b c.args.c).p = cc in
+    let q_is : c.signed_dot-q.result ≡ (fractions turn c.args.ray.now c.args.a c.args.b c.args.c).q = cc in
+    let t_is : c.signed_dot.result ≡ (fractions turn c.args.ray.now c.args.a c.args.b c.args.c).t = cc in
+    let p_size = c.signed_dot-p.ensures.size in
+    let q_size = c.signed_dot-q.ensures.size in
     let size = rw read at c.turned-det.ensures.value in
     let some = positive_turned _ c.dot-det.result refl (λ none. c.if-det-eq0.false (ap (of_z w128) none)) in
-    let p_sign = not_negative c.part-p.result (rw (read_wide c.part-p.result c.part-p.type_inv) at c.if-p-lt0.false) in
-    let q_sign = not_negative c.part-q.result (rw (read_wide c.part-q.result c.part-q.type_inv) at c.if-q-lt0.false) in
-    let sum = not_below c.turned-det.result (c.part-p.result +ℤ c.part-q.result) (rw (read_wide c.turned-det.result c.turned-det.type_inv, read_wide_sum c.part-p.result c.part-q.result (omega arith) (omega arith)) at c.if-det-p-2.false) in
+    let p_sign = not_negative c.signed_dot-p.result (rw (read_wide c.signed_dot-p.result c.signed_dot-p.type_inv) at c.if-p-lt0.false) in
+    let q_sign = not_negative c.signed_dot-q.result (rw (read_wide c.signed_dot-q.result c.signed_dot-q.type_inv) at c.if-q-lt0.false) in
+    let sum = not_below c.turned-det.result (c.signed_dot-p.result +ℤ c.signed_dot-q.result) (rw (read_wide c.turned-det.result c.turned-det.type_inv, read_wide_sum c.signed_dot-p.result c.signed_dot-q.result (omega arith) (omega arith)) at c.if-det-p-2.false) in
     let inside = met (fractions turn c.args.ray.now c.args.a c.args.b c.args.c) (rw (← size, det_is) at some) (rw p_is at p_sign) (rw q_is at q_sign) (rw (det_is, p_is, q_is) at sum) in
-    (rw (read_wide c.part.result c.part.type_inv, read_wide c.turned-det.result c.turned-det.type_inv, t_is, det_is) at c.depth_number.ensures) ∙ inside
+    (rw (read_wide c.signed_dot.result c.signed_dot.type_inv, read_wide c.turned-det.result c.turned-det.type_inv, t_is, det_is) at c.depth_number.ensures) ∙ inside
     ∙ ap crossing_depth (sym (fractions-are turn c.args.ray.now c.args.a c.args.b c.args.c sign))

@@ -2,7 +2,7 @@ use Rattle.std.proofs.Common.{◌^◌, arith}
 use Rattle.fx_math.specs.Vec3.{reach}
 use Rattle.picture_model.proofs.Crossings.{dot_within}
 use Rattle.picture_model.proofs.Numbers.{read_wide}
-use Rattle.hit_tests.proofs.triangles.part.Goals as goal
+use Rattle.hit_tests.proofs.triangles.signed_dot.Goals as goal
 
 pub turned-requires : goal.turned-requires
 turned-requires c =
