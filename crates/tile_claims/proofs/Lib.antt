@@ -1,0 +1,3 @@
+pub mod SumLaws
+pub mod ClaimsKept
+pub mod SlotLaws
