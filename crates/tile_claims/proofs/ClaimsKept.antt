@@ -14,7 +14,7 @@ use Rattle.tile_claims.specs.declared.view.View.{View}
 use Rattle.tile_claims.specs.Parts.{tiles_of, IsSized, IsFilled}
 use Rattle.tile_claims.specs.Pixels.{Pixels}
 use Rattle.tile_claims.specs.Views.{times, open_tiles, claimed, one_if, taken, new_view, claiming, too_late, giving, looking_at_claims, looking_at_gives, stopping, splitting, beside, collecting, IsAlone}
-use Rattle.tile_claims.specs.Rule.{Claimed, Knows, Kept, IsHome, times_open, times_given, Sat, TakesNext, Counts, LooksAtClaims, LooksAtGives, Stops, Collects}
+use Rattle.tile_claims.specs.Rule.{Claimed, Knows, Kept, IsHome, IsShown, times_open, times_given, Sat, TakesNext, Counts, LooksAtClaims, LooksAtGives, Stops, Collects}
 use Rattle.tile_claims.proofs.SumLaws.{sum_set, sum_same, sum_at, sum_only, times-same, times-other, times-cons, times-more}
 
 off : false ≡ true → ⊥
@@ -512,6 +512,21 @@ module _ (key : Key) where
       sum_by-le-sum_by (λ (u : View). times t (open_tiles u)) (λ (u : View). length (open_tiles u)) s.views (λ u. count_by-le-length (λ y. y == t) (open_tiles u)) in
       let idle : times_open t s.views ≡ 0 = omega (arith, within, k.in_all, taken_le s k) in
       (idle, omega arith)
+
+  -- where any view has seen all tiles given, all are there
+  pub seen_shown : (s : Claimed) → Rule s → (seat : ℕ) (v : View) → get_elem? s.views seat ≡ some v → v.gives.last ≡ tiles_of v.key → (t : ℕ) → t < n → IsShown key t s
+  seen_shown s k seat v at all t below =
+      let mine = k.each seat v at in
+      let keys : tiles_of v.key ≡ n = ap tiles_of mine.keyed in
+      let full : n ≤ k.gives = omega (arith, mine.gives_seen) in
+      let given = all_given s k full t below in
+      record {
+        given = omega (arith, given.0, given.1, once_at_most s k t);
+        filled = λ first at_first there.
+            let leads = k.each 0 first at_first in
+            let home = k.homes t below given.0 (sym (ap (times t) (leads.leads leads.first).1) ∙ there) in
+            (home.0, home.1, home.3 given.1);
+      }
 
   -- the rule after a tile was collected
   collect_kept : (s : Claimed) (k : Rule s) (id : ℕ) (v : View) → get_elem? s.views id ≡ some v → v.first ≡ true → n ≤ k.gives → (t : ℕ) → t < n → (words : List ℕ) → words ≡ k.claims ∷ k.gives ∷ []

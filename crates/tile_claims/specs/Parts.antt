@@ -1,12 +1,12 @@
 -- A key's picture, and its parts.
-use Rattle.std.specs.Prelude.{◌≡◌, ℕ, zero, suc, ◌<◌, List, Option, Some}
+use Rattle.std.specs.Prelude.{◌≡◌, ℕ, zero, suc, ◌+◌, ◌<◌, List, Option, Some}
 use mathlib.Core.Option.{some}
 use lib.ListN.{get_elem?}
 use Rattle.fx_math.specs.declared.scene.Scene.{Scene}
 use Rattle.picture_model.specs.declared.records.Plane.{Plane}
 use Rattle.picture_model.specs.declared.records.Plane.TheVariants.{Color, PrimitiveId, ObjectId, InstanceId}
 use Rattle.picture_model.specs.declared.records.Rect.{Rect}
-use Rattle.picture_model.specs.Pictures.{in_a_row, part}
+use Rattle.picture_model.specs.Pictures.{in_a_row, part, pixel, row_of}
 use Rattle.picture_model.specs.Tiles.{tile_count, tile_rect}
 use Rattle.tile_claims.specs.declared.key.Key.{Key}
 use Rattle.tile_claims.specs.Pixels.{Pixels}
@@ -33,6 +33,10 @@ plane (suc (suc (suc n))) = InstanceId
 -- what a tile shows: its parts of the four pictures, one behind the other
 abbrev pub shown : Key → ℕ → List ℕ
 shown key tile = in_a_row (λ channel. part (scene_of key) (plane channel) tile) 0 4
+
+-- the picture's row y of a tile in a channel
+abbrev pub row_shown : Key → ℕ → ℕ → ℕ → List ℕ
+row_shown key tile channel y = row_of (pixel (scene_of key) (plane channel)) (rect_of key tile) ((rect_of key tile).y0 + y)
 
 -- the pixels have the sides of the tile
 pub record IsSized (key : Key) (tile : ℕ) (p : Pixels) : Type 0 where

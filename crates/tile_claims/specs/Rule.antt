@@ -64,6 +64,12 @@ HasSeenAll v = v.gives.last ≡ tiles_of v.key
 abbrev pub HasSeenStopped : View → Type 0
 HasSeenStopped v = v.stop ≡ Some v.gives.last
 
+-- the tile is given, and filled, in its slot where the first seat has not collected it
+pub record IsShown (key : Key) (tile : ℕ) (s : Claimed) : Type 0 where
+  pub given : times_given tile s.views ≡ 1
+  pub filled : (first : View) → get_elem? s.views 0 ≡ some first → times tile first.collected ≡ 0
+      → (p : Pixels) × (get_elem? s.homes tile ≡ some (some (Some p))) × IsFilled key tile p
+
 -- no tile is open at any seat
 abbrev pub NoneIsOpen : List View → Type 0
 NoneIsOpen views = (seat : ℕ) (v : View) → get_elem? views seat ≡ some v → v.opened ≡ None

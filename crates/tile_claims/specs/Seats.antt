@@ -7,7 +7,7 @@ use Rattle.tile_claims.specs.declared.seats.Claims.{Claims}
 use Rattle.tile_claims.specs.declared.seats.Seat.{Seat}
 use Rattle.tile_claims.specs.declared.seats.Claim.{Claim}
 use Rattle.tile_claims.specs.Parts.{tiles_of, IsSized, IsFilled}
-use Rattle.tile_claims.specs.Pixels.{Pixels, with_row as pixels_with_row}
+use Rattle.tile_claims.specs.Pixels.{Pixels, IsWhole, with_row as pixels_with_row}
 
 -- the words, the slots and the key of claims: shares of the same claims have the same
 abbrev pub frame_of : Claims → Frame
@@ -43,6 +43,7 @@ pub record IsClaimOf (claims : Claims) (c : Claim) : Type 0 where
   pub table : c.of.value.table_id ≡ (frame_of claims).table.shared.table_id
   pub within : tile_of c < tiles_of (key_of claims)
   pub sized : IsSized (key_of claims) (tile_of c) (pixels_of c)
+  pub whole : IsWhole (pixels_of c).w (pixels_of c).h (pixels_of c).bytes
 
 -- the claim is this seat's, and of the tile that is open at it
 pub record IsOpenAt (s : Seat) (c : Claim) : Type 0 where

@@ -1,9 +1,5 @@
 //! The rule of a table of claims, and its steps.
-ghost use Rattle.std.specs.Prelude.{◌≡◌, ◌⊎◌, ℕ};
-ghost use mathlib.Core.Option.{some};
-ghost use lib.ListN.{get_elem?};
-ghost use Rattle.tile_claims.specs.declared.key.Key.{Key as TheKey};
-ghost use Rattle.tile_claims.specs.Rule.{Claimed, Kept, HasSeenAll, HasSeenStopped, NoneIsOpen, AreClaimedOnce};
+ghost use Rattle.std.specs.Prelude.{ℕ};
 
 use crate::key::Key;
 use crate::pixels::TilePixels;
@@ -98,16 +94,3 @@ impl<T: Tile> Play<Option<TilePixels>, View> for Collect<T> {
 
     ghost then = { Collects T.tile };
 }
-
-/// Each tile is claimed at most once: wherever the rule of a table of claims holds, no tile is open or
-/// given at two seats, or twice at one.
-pub fn tiles_are_claimed_once()
-    ensures { (key : TheKey) (s : Claimed) → Kept key s → AreClaimedOnce s.views }
-{}
-
-/// Where the first seat has seen all tiles given, or as many as were claimed when it stopped the claims,
-/// no tile is open at any seat.
-pub fn no_tile_is_open()
-    ensures { (key : TheKey) (s : Claimed) → Kept key s
-        → (v : View) → get_elem? s.views 0 ≡ some v → HasSeenAll v ⊎ HasSeenStopped v → NoneIsOpen s.views }
-{}
