@@ -5,11 +5,15 @@ use Rattle.std.proofs.Math.Seq.{take-append_seam, drop-append_seam, drop-append-
 use Rattle.std.proofs.Math.Nat.{add-mul}
 use Rattle.std.proofs.lemmas.Nat.{div-mul-add}
 use Rattle.std.specs.List.{refill, length_refill}
+use mathlib.Core.Logic.{dite}
 use native.Mathlib.Decide.{dec_le}
 use Rattle.picture_model.specs.Pictures.{in_a_row, part, pixel, pixels_in, row_of}
 use Rattle.picture_model.proofs.PictureSizes.{length-pixel, length-in_a_row}
 use Rattle.tile_claims.specs.declared.key.Key.{Key}
-use Rattle.tile_claims.specs.Parts.{scene_of, rect_of, plane, row_shown, IsSized, IsFilled}
+use Rattle.tile_claims.specs.Parts.{scene_of, rect_of, plane, row_shown, AreRows, IsSized, IsFilled}
+use Rattle.tile_claims.specs.declared.seats.Claim.{Claim}
+use Rattle.tile_claims.specs.declared.seats.Claims.{Claims}
+use Rattle.tile_claims.specs.Seats.{pixels_of, IsClaimOf, with_row as claim_with_row}
 use Rattle.tile_claims.specs.Pixels.{Pixels, IsWhole, row, row_start, with_row}
 
 -- pieces of a list
@@ -69,9 +73,9 @@ in_a_row-pieces f m (suc n) i xs long each =
     let some : m ≤ length xs = omega (arith, suc-mul n m) in
     let first : take m xs ≡ f i = (let e : 0 * m ≡ 0 = omega arith in let p : i + 0 ≡ i = omega arith in ap (λ s. piece s m xs) (sym e) ∙ each 0 (omega arith) ∙ ap f p) in
     let rest : drop m xs ≡ in_a_row f (i + 1) n = in_a_row-pieces f m n (i + 1) (drop m xs) (length-drop m xs ∙ omega (arith, suc-mul n m)) (λ k below.
-        let e : m + k * m ≡ (k + 1) * m = omega (arith, suc-mul k m) in
-        let p : i + (k + 1) ≡ i + 1 + k = omega arith in
-        ap (take m) (drop-drop (k * m) m xs ∙ ap (λ s. drop s xs) e) ∙ each (k + 1) (omega arith) ∙ ap f p) in
+    let e : m + k * m ≡ (k + 1) * m = omega (arith, suc-mul k m) in
+    let p : i + (k + 1) ≡ i + 1 + k = omega arith in
+    ap (take m) (drop-drop (k * m) m xs ∙ ap (λ s. drop s xs) e) ∙ each (k + 1) (omega arith) ∙ ap f p) in
     sym (take-append-drop m xs) ∙ ap (λ l. l ++ drop m xs) first ∙ ap (λ l. f i ++ l) rest
 
 -- and the other way round
@@ -146,8 +150,8 @@ filled_rows key tile p filled channel y below low =
     let size : p.h * (4 * p.w) ≡ rect.h * (4 * rect.w) = ap (λ h. h * (4 * p.w)) height ∙ ap (λ w. rect.h * (4 * w)) width in
     let M : ℕ = rect.h * (4 * rect.w) in
     let mine : channel_bytes p channel ≡ part (scene_of key) (plane channel) tile =
-        (ap (λ m. piece (channel * m) m p.bytes) size ∙ ap (piece (channel * M) M) filled.shows
-        ∙ piece-in_a_row (λ c. part (scene_of key) (plane c) tile) M (λ c. length-part key tile c) 4 0 channel below ∙ ap (λ c. part (scene_of key) (plane c) tile) (omega arith)) in
+    (ap (λ m. piece (channel * m) m p.bytes) size ∙ ap (piece (channel * M) M) filled.shows
+    ∙ piece-in_a_row (λ c. part (scene_of key) (plane c) tile) M (λ c. length-part key tile c) 4 0 channel below ∙ ap (λ c. part (scene_of key) (plane c) tile) (omega arith)) in
     sym (row-channel p channel y low)
     ∙ ap (λ b. piece (y * (4 * p.w)) (4 * p.w) b) (mine ∙ part_rows key tile channel)
     ∙ ap (λ w. piece (y * (4 * w)) (4 * w) (in_a_row f rect.y0 rect.h)) width
@@ -173,30 +177,31 @@ row-with_row p channel y bytes whole below low long =
     ∙ ap (λ m. piece (row_start p channel y) m (over p.bytes (row_start p channel y) bytes)) (sym long)
     ∙ piece-over p.bytes bytes (row_start p channel y) (omega (arith, row_within p channel y whole below low))
 
+-- a row's number tells its channel and its place there
+same_place : (c d h a b : ℕ) → a < h → b < h → c * h + a ≡ d * h + b → (c ≡ d) × (a ≡ b)
+same_place c d h a b p q e =
+    let c_is : c ≡ d = sym (div-mul-add c h a p) ∙ ap (λ k. k / h) e ∙ div-mul-add d h b q in
+    (c_is, (let f : c * h ≡ d * h = ap (λ k. k * h) c_is in omega (arith, e, f)))
+
 -- and the other rows stay
 pub row-with_other : (p : Pixels) (channel y other z : ℕ) (bytes : List ℕ) → IsWhole p.w p.h p.bytes → channel < 4 → y < p.h → other < 4 → z < p.h → length bytes ≡ 4 * p.w
     → (channel ≡ other → y ≢ z) → row (with_row p channel y bytes) other z ≡ row p other z
 row-with_other p channel y other z bytes whole below low below' low' long apart =
     ap (piece (row_start p other z) (4 * p.w)) (with_row-bytes p channel y bytes whole below low long)
     ∙ ⊎_elim
-        (λ (before : other * p.h + z < channel * p.h + y).
-            let step : (other * p.h + z + 1) * m ≤ (channel * p.h + y) * m = mul-le-mul_right m (omega arith) in
-            piece-over_before p.bytes bytes (row_start p channel y) (row_start p other z) m (omega (arith, step, suc-mul (other * p.h + z) m)) start)
-        (λ (after : channel * p.h + y < other * p.h + z).
-            let step : (channel * p.h + y + 1) * m ≤ (other * p.h + z) * m = mul-le-mul_right m (omega arith) in
-            ap (take m) (drop-over p.bytes bytes (row_start p channel y) (row_start p other z) (omega (arith, step, long, suc-mul (channel * p.h + y) m)) start))
-        (places (dec_le (channel * p.h + y) (other * p.h + z)) (dec_le (other * p.h + z) (channel * p.h + y)))
+    (λ (before : other * p.h + z < channel * p.h + y).
+    let step : (other * p.h + z + 1) * m ≤ (channel * p.h + y) * m = mul-le-mul_right m (omega arith) in
+    piece-over_before p.bytes bytes (row_start p channel y) (row_start p other z) m (omega (arith, step, suc-mul (other * p.h + z) m)) start)
+    (λ (after : channel * p.h + y < other * p.h + z).
+    let step : (channel * p.h + y + 1) * m ≤ (other * p.h + z) * m = mul-le-mul_right m (omega arith) in
+    ap (take m) (drop-over p.bytes bytes (row_start p channel y) (row_start p other z) (omega (arith, step, long, suc-mul (channel * p.h + y) m)) start))
+    (places (dec_le (channel * p.h + y) (other * p.h + z)) (dec_le (other * p.h + z) (channel * p.h + y)))
   where
     m : ℕ
     m = 4 * p.w
 
     start : row_start p channel y ≤ length p.bytes
     start = omega (arith, row_within p channel y whole below low)
-
-    same_place : (c d h a b : ℕ) → a < h → b < h → c * h + a ≡ d * h + b → (c ≡ d) × (a ≡ b)
-    same_place c d h a b p q e =
-        let c_is : c ≡ d = sym (div-mul-add c h a p) ∙ ap (λ k. k / h) e ∙ div-mul-add d h b q in
-        (c_is, (let f : c * h ≡ d * h = ap (λ k. k * h) c_is in omega (arith, e, f)))
 
     places : Dec (channel * p.h + y ≤ other * p.h + z) → Dec (other * p.h + z ≤ channel * p.h + y) → (other * p.h + z < channel * p.h + y) ⊎ (channel * p.h + y < other * p.h + z)
     places (no above) b = inl (lt_of_not-le above)
@@ -209,4 +214,36 @@ with_row-whole p channel y bytes whole = record {
   width = whole.width;
   height = whole.height;
   size = sym (length_refill (length p.bytes) p.bytes _ refl) ∙ whole.size;
+}
+
+-- one more row is the picture's
+pub rows_more : (key : Key) (tile : ℕ) (p : Pixels) (channel y : ℕ) (bytes : List ℕ) → IsSized key tile p → IsWhole p.w p.h p.bytes → channel < 4 → y < p.h
+    → bytes ≡ row_shown key tile channel y → AreRows key tile p channel y → AreRows key tile (with_row p channel y bytes) channel (y + 1)
+rows_more key tile p channel y bytes sized whole below low shows before other z below' low' early = dite (dec_le (channel * p.h + y) (other * p.h + z))
+    (λ le.
+    let same = same_place channel other p.h y z low low' (omega (arith, early)) in
+    subst (λ (t : ℕ × ℕ). row (with_row p channel y bytes) t.0 t.1 ≡ row_shown key tile t.0 t.1) (λ i. (same.0 i, same.1 i))
+    (row-with_row p channel y bytes whole below low long ∙ shows))
+    (λ apart.
+    let earlier : other * p.h + z < channel * p.h + y = lt_of_not-le apart in
+    row-with_other p channel y other z bytes whole below low below' low' long
+    (λ c_is y_is. let moved : channel * p.h ≡ other * p.h = ap (λ c. c * p.h) c_is in omega (arith, earlier, moved, y_is))
+    ∙ before other z below' low' earlier)
+  where
+    long : length bytes ≡ 4 * p.w
+    long = ap length shows ∙ length-row_shown key tile channel ((rect_of key tile).y0 + y) ∙ ap (λ w. 4 * w) (sym sized.width)
+
+-- a tile of which all rows are the picture's is filled
+pub rows_all : (key : Key) (tile : ℕ) (p : Pixels) → IsSized key tile p → IsWhole p.w p.h p.bytes → AreRows key tile p 4 0 → IsFilled key tile p
+rows_all key tile p sized whole rows = rows_fill key tile p sized whole (λ channel y below low.
+    let last : (channel + 1) * p.h ≤ 4 * p.h = mul-le-mul_right p.h (omega arith) in
+    rows channel y below low (omega (arith, last, suc-mul channel p.h)))
+
+-- a claim to whose row something was written is of the same tile
+pub claim_written : (claims : Claims) (c : Claim) (channel y : ℕ) (bytes : List ℕ) → IsClaimOf claims c → IsClaimOf claims (claim_with_row c channel y bytes)
+claim_written claims c channel y bytes of = record {
+  table = of.table;
+  within = of.within;
+  sized = record { width = of.sized.width; height = of.sized.height };
+  whole = with_row-whole (pixels_of c) channel y bytes of.whole;
 }

@@ -1,5 +1,5 @@
 -- A key's picture, and its parts.
-use Rattle.std.specs.Prelude.{◌≡◌, ℕ, zero, suc, ◌+◌, ◌<◌, List, Option, Some}
+use Rattle.std.specs.Prelude.{◌≡◌, ℕ, zero, suc, ◌+◌, ◌*◌, ◌<◌, List, Option, Some}
 use mathlib.Core.Option.{some}
 use lib.ListN.{get_elem?}
 use Rattle.fx_math.specs.declared.scene.Scene.{Scene}
@@ -9,7 +9,7 @@ use Rattle.picture_model.specs.declared.records.Rect.{Rect}
 use Rattle.picture_model.specs.Pictures.{in_a_row, part, pixel, row_of}
 use Rattle.picture_model.specs.Tiles.{tile_count, tile_rect}
 use Rattle.tile_claims.specs.declared.key.Key.{Key}
-use Rattle.tile_claims.specs.Pixels.{Pixels}
+use Rattle.tile_claims.specs.Pixels.{Pixels, row}
 
 -- the scene of a key, at the key's size
 abbrev pub scene_of : Key → Scene
@@ -37,6 +37,10 @@ shown key tile = in_a_row (λ channel. part (scene_of key) (plane channel) tile)
 -- the picture's row y of a tile in a channel
 abbrev pub row_shown : Key → ℕ → ℕ → ℕ → List ℕ
 row_shown key tile channel y = row_of (pixel (scene_of key) (plane channel)) (rect_of key tile) ((rect_of key tile).y0 + y)
+
+-- the tile's rows are the picture's, as far as they stand before row y of a channel
+abbrev pub AreRows : Key → ℕ → Pixels → ℕ → ℕ → Type 0
+AreRows key tile p channel y = (other z : ℕ) → other < 4 → z < p.h → other * p.h + z < channel * p.h + y → row p other z ≡ row_shown key tile other z
 
 -- the pixels have the sides of the tile
 pub record IsSized (key : Key) (tile : ℕ) (p : Pixels) : Type 0 where

@@ -1,5 +1,5 @@
 -- What contracts see of claims, of seats and of a tile in hand.
-use Rattle.std.specs.Prelude.{◌≡◌, ℕ, ◌<◌, List, Some}
+use Rattle.std.specs.Prelude.{◌≡◌, ℕ, ◌<◌, List, [], Some, None, false}
 use Rattle.tile_claims.specs.declared.key.Key.{Key}
 use Rattle.tile_claims.specs.declared.view.View.{View}
 use Rattle.tile_claims.specs.declared.frame.Frame.{Frame}
@@ -33,6 +33,14 @@ pub record IsSeatOf (claims : Claims) (s : Seat) : Type 0 where
   pub table : s.seat.table_id ≡ (frame_of claims).table.shared.table_id
   pub keyed : (view s).key ≡ key_of claims
 
+-- the seat is one of these claims, and has not claimed yet
+pub record IsFresh (claims : Claims) (s : Seat) : Type 0 where
+  pub seat : IsSeatOf claims s
+  pub opened : (view s).opened ≡ None
+  pub given : (view s).given ≡ []
+  pub collected : (view s).collected ≡ []
+  pub in_time : (view s).late ≡ false
+
 -- the same seat, whatever it has come to know
 pub record IsSameSeat (s t : Seat) : Type 0 where
   pub table : t.seat.table_id ≡ s.seat.table_id
@@ -50,6 +58,11 @@ pub record IsOpenAt (s : Seat) (c : Claim) : Type 0 where
   pub table : c.of.value.table_id ≡ s.seat.table_id
   pub number : c.of.value.id ≡ s.seat.id
   pub opened : (view s).opened ≡ Some (tile_of c)
+
+-- the same claim, whatever was written to it
+pub record IsSameClaim (c d : Claim) : Type 0 where
+  pub tile : tile_of d ≡ tile_of c
+  pub seat : d.of ≡ c.of
 
 -- the claim's pixels are its tile's parts of the pictures of the claims' key
 abbrev pub IsReady : Claims → Claim → Type 0

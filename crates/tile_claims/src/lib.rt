@@ -16,5 +16,7 @@ pub use laws::{
     tiles_are_claimed_once,
 };
 pub use pixels::TilePixels;
-
 pub use seats::{Claim, Claims, Seat};
+
+#[cfg(test)]
+mod tests;
