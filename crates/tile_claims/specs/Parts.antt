@@ -13,7 +13,7 @@ use Rattle.tile_claims.specs.Pixels.{Pixels, row}
 
 -- the scene of a key, at the key's size
 abbrev pub scene_of : Key → Scene
-scene_of key = record key.scene.value { width = key.w; height = key.h }
+scene_of key = record key.scene.names { width = key.w; height = key.h }
 
 -- the number of its tiles
 abbrev pub tiles_of : Key → ℕ

@@ -8,7 +8,7 @@ ghost use Rattle.tile_claims.specs.Pixels.{IsWhole};
 ghost use Rattle.tile_claims.specs.Rule.{HasSeenAll};
 ghost use Rattle.tile_claims.specs.Seats.{key_of, view, tile_of, pixels_of, IsSeatOf, IsFresh, IsClaimOf, IsSameClaim, IsReady, with_row};
 
-use crate::{Claim, Claims, Key, Seat, TilePixels};
+use crate::{Claim, Claims, Key, SceneName, Seat, TilePixels};
 use dev_types::NoMemory;
 use fx_math::{
     CameraRow, LightList, Lighting, NO_ID, Place, Primitive, PrimitiveList, Scene, Shape, Vec3,
@@ -16,7 +16,6 @@ use fx_math::{
 use picture_model::{Plane, Rect, is_scene_within, pixel, tile_count, tile_rect};
 use std::alloc::{AllocError, Global};
 use std::process::Abort;
-use std::snapshot::Snapshot;
 use std::test::Fail;
 use std::thread::{Threads, join};
 
@@ -270,7 +269,7 @@ fn naming(scene: &Scene) -> Key
     Key {
         w: scene.width,
         h: scene.height,
-        scene: Snapshot::of(scene),
+        scene: SceneName::of(scene),
     }
 }
 
