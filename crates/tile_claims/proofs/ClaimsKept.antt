@@ -15,7 +15,7 @@ use Rattle.tile_claims.specs.Parts.{tiles_of, IsSized, IsFilled}
 use Rattle.tile_claims.specs.Pixels.{Pixels}
 use Rattle.tile_claims.specs.Views.{times, open_tiles, claimed, one_if, taken, new_view, claiming, too_late, giving, looking_at_claims, looking_at_gives, stopping, splitting, beside, collecting, IsAlone}
 use Rattle.tile_claims.specs.Rule.{Claimed, Knows, Kept, IsHome, IsShown, times_open, times_given, Sat, TakesNext, Counts, LooksAtClaims, LooksAtGives, Stops, Collects}
-use Rattle.tile_claims.proofs.SumLaws.{sum_set, sum_same, sum_at, sum_only, times-same, times-other, times-cons, times-more}
+use Rattle.tile_claims.proofs.SumLaws.{sum_set, sum_same, sum_at, sum_only, sum_agree, upto, upto-same, upto-add, upto-ones, upto-length, upto-sum, times-same, times-other, times-cons, times-more}
 
 off : false ≡ true → ⊥
 off e = true≢false (sym e)
@@ -64,6 +64,27 @@ module _ (key : Key) where
       by_stop None stopped = omega arith
       by_stop (Some m) stopped = (stopped m refl).0
 
+  -- as many tiles are open or given as were claimed
+  in_all : (s : Claimed) (k : Rule s) → sum_by (λ v. length (open_tiles v)) s.views + k.gives ≡ taken k.stop k.claims n
+  in_all s k =
+      let c : ℕ = taken k.stop k.claims n in
+      let opened = sum_agree (λ (v : View). upto (λ t. times t (open_tiles v)) c) (λ (v : View). length (open_tiles v)) s.views (λ i v at.
+      upto-length (open_tiles v) c (λ t above. omega (arith, k.no_more t above, sum_at (λ (u : View). times t (open_tiles u)) s.views i v at))) in
+      let given = sum_agree (λ (v : View). upto (λ t. times t v.given) c) (λ (v : View). length v.given) s.views (λ i v at.
+      upto-length v.given c (λ t above. omega (arith, k.no_more t above, sum_at (λ (u : View). times t u.given) s.views i v at))) in
+      let all = upto-same (λ t. times_open t s.views + times_given t s.views) (λ t. 1) c k.once in
+      omega (
+        arith,
+        opened,
+        given,
+        k.given,
+        upto-sum (λ t (v : View). times t (open_tiles v)) s.views c,
+        upto-sum (λ t (v : View). times t v.given) s.views c,
+        upto-add (λ t. times_open t s.views) (λ t. times_given t s.views) c,
+        all,
+        upto-ones c,
+      )
+
   -- laws of the rule
 
   pub once_at_most : (s : Claimed) → Rule s → (tile : ℕ) → times_open tile s.views + times_given tile s.views ≤ 1
@@ -72,7 +93,7 @@ module _ (key : Key) where
       (λ nle. omega (arith, k.once tile (lt_of_not-le nle)))
 
   none_open : (s : Claimed) (k : Rule s) → taken k.stop k.claims n ≤ k.gives → (seat : ℕ) (v : View) → get_elem? s.views seat ≡ some v → v.opened ≡ None
-  none_open s k all seat v at = by_tile v.opened (omega (arith, k.in_all, sum_at (λ (u : View). length (open_tiles u)) s.views seat v at))
+  none_open s k all seat v at = by_tile v.opened (omega (arith, in_all s k, sum_at (λ (u : View). length (open_tiles u)) s.views seat v at))
     where
       by_tile : (tile : Option ℕ) → length (option_to_list tile) ≤ 0 → tile ≡ None
       by_tile None le = refl
@@ -137,7 +158,7 @@ module _ (key : Key) where
       let opened = sum_only (λ (u : View). length (open_tiles u)) s.views id v one at in
       let given = sum_only (λ (u : View). length u.given) s.views id v one at in
       let stop : taken v.stop k.claims n ≡ taken k.stop k.claims n = ap (λ t. taken t k.claims n) leads.0 in
-      omega (arith, k.in_all, k.given)
+      omega (arith, in_all s k, k.given)
 
   alone_going : (s : Claimed) (k : Rule s) (id : ℕ) (v : View) → get_elem? s.views id ≡ some v → IsAlone v → v.stop ≡ None → min k.claims (tiles_of v.key) ≡ claimed v
   alone_going s k id v at lone goes =
@@ -169,7 +190,6 @@ module _ (key : Key) where
         once = λ t below. omega (arith, k.once t (omega arith), opened t, given t);
         no_more = λ t above. omega (arith, k.no_more t (omega arith), opened t, given t);
         given = sum_same (λ (u : View). length u.given) s.views id v w at (ap length gives_same) ∙ k.given ∙ sym same_gives;
-        in_all = omega (arith, sum_same (λ (u : View). length (open_tiles u)) s.views id v w at (ap length opens), k.in_all);
         homes = λ t below none_open there. let home = k.homes t below (omega (arith, none_open, opened t)) there in
             (home.0, home.1, home.2, λ some_given. home.3 (omega (arith, some_given, given t)));
         collected = λ t there. omega (arith, k.collected t there, given t);
@@ -203,9 +223,6 @@ module _ (key : Key) where
       (λ t. let nothing : times t (open_tiles v) ≡ 0 = ap (λ o. times t (option_to_list o)) idle in
       omega (arith, sum_set (λ (u : View). times t (open_tiles u)) s.views id v w at)) in
       let given : (t : ℕ) → times_given t views ≡ times_given t s.views = (λ t. sum_same (λ (u : View). times t u.given) s.views id v w at refl) in
-      let count : sum_by (λ (u : View). length (open_tiles u)) views ≡ sum_by (λ (u : View). length (open_tiles u)) s.views + 1 =
-      (let nothing : length (open_tiles v) ≡ 0 = ap (λ o. length (option_to_list o)) idle in
-      omega (arith, sum_set (λ (u : View). length (open_tiles u)) s.views id v w at)) in
       record {
         claims = c;
         gives = k.gives;
@@ -222,7 +239,6 @@ module _ (key : Key) where
             (times-cons t x []);
         no_more = λ t above. let apart : x ≢ t = (λ e. omega (arith, e)) in omega (arith, times-other t x [] apart, k.no_more t (omega arith), opened t, given t);
         given = sum_same (λ (u : View). length u.given) s.views id v w at refl ∙ k.given;
-        in_all = omega (arith, count, k.in_all);
         homes = λ t below none_open there.
             let apart : t ≢ x = (λ e. let here = times-same x [] in let same : times_open x views ≡ times_open t views = ap (λ r. times_open r views) (sym e) in omega (arith, opened x)) in
             let home = k.homes t below (omega (arith, none_open, opened t)) there in
@@ -306,9 +322,6 @@ module _ (key : Key) where
       let one : (u : ℕ) → times u (open_tiles v) ≡ times u (t ∷ []) = (λ u. ap (λ o. times u (option_to_list o)) is) in
       let opened : (u : ℕ) → times_open u views + times u (t ∷ []) ≡ times_open u s.views = (λ u. omega (arith, one u, sum_set (λ (y : View). times u (open_tiles y)) s.views id v w at)) in
       let given : (u : ℕ) → times_given u views ≡ times_given u s.views + times u (t ∷ []) = (λ u. omega (arith, times-more u t v.given, sum_set (λ (y : View). times u y.given) s.views id v w at)) in
-      let less : sum_by (λ (u : View). length (open_tiles u)) views + 1 ≡ sum_by (λ (u : View). length (open_tiles u)) s.views =
-      (let single : length (open_tiles v) ≡ 1 = ap (λ o. length (option_to_list o)) is in
-      omega (arith, sum_set (λ (u : View). length (open_tiles u)) s.views id v w at)) in
       let claimed_one : t < taken k.stop k.claims n = lt_of_not-le (λ above. omega (arith, k.no_more t above, opened t, times-same t [])) in
       record {
         claims = k.claims;
@@ -323,7 +336,6 @@ module _ (key : Key) where
         once = λ u below. omega (arith, k.once u below, opened u, given u);
         no_more = λ u above. omega (arith, k.no_more u above, opened u, given u);
         given = omega (arith, k.given, sum_set (λ (u : View). length u.given) s.views id v w at);
-        in_all = omega (arith, less, k.in_all);
         homes = λ u below none_open there. ⊎_elim
             (λ (e : (t ≡ u) × (times u (t ∷ []) ≡ 1 + times u [])).
             subst (λ r. IsHome key r record { words = words; homes = set s.homes t (some (Some p)); views = views }) e.0
@@ -349,7 +361,7 @@ module _ (key : Key) where
       goes s k deep at fits =
           let x : ℕ = get_or s.words 1 0 in
           let x_is : x ≡ k.gives = ap (λ ws. get_or ws 1 0) k.words in
-          let up : succ x ≡ k.gives + 1 = (let same : succ x ≡ succ k.gives = ap succ x_is in omega (arith, same, taken_le s k, k.in_all, small)) in (
+          let up : succ x ≡ k.gives + 1 = (let same : succ x ≡ succ k.gives = ap succ x_is in omega (arith, same, taken_le s k, in_all s k, small)) in (
             giving v t,
             gives_back,
             tt,
@@ -400,7 +412,7 @@ module _ (key : Key) where
         record {
           seen = refl;
           rises = omega (arith, old.gives_seen);
-          within = omega (arith, taken_le s k, k.in_all);
+          within = omega (arith, taken_le s k, in_all s k);
           alone = λ lone.
               let leads = old.leads lone.0 in
               let one : length s.views ≡ 1 = omega (arith, lone.1, leads.2, k.seats) in
@@ -492,7 +504,6 @@ module _ (key : Key) where
         once = λ t below. omega (arith, k.once t below, opened t, given t);
         no_more = λ t above. omega (arith, k.no_more t above, opened t, given t);
         given = omega (arith, k.given, sum_by_push (λ (u : View). length u.given) cut new, sum_same (λ (u : View). length u.given) s.views id v w at refl);
-        in_all = omega (arith, k.in_all, sum_by_push (λ (u : View). length (open_tiles u)) cut new, sum_same (λ (u : View). length (open_tiles u)) s.views id v w at refl);
         homes = λ t below none_there there. let home = k.homes t below (omega (arith, none_there, opened t)) there in
             (home.0, home.1, home.2, λ some_given. home.3 (omega (arith, some_given, given t)));
         collected = λ t there. omega (arith, k.collected t there, given t);
@@ -507,10 +518,10 @@ module _ (key : Key) where
   -- where a view has seen all tiles given, each is given, and none is open
   all_given : (s : Claimed) (k : Rule s) → n ≤ k.gives → (t : ℕ) → t < n → (times_open t s.views ≡ 0) × (0 < times_given t s.views)
   all_given s k all t below =
-      let once = k.once t (omega (arith, taken_le s k, k.in_all)) in
+      let once = k.once t (omega (arith, taken_le s k, in_all s k)) in
       let within : times_open t s.views ≤ sum_by (λ (u : View). length (open_tiles u)) s.views =
       sum_by-le-sum_by (λ (u : View). times t (open_tiles u)) (λ (u : View). length (open_tiles u)) s.views (λ u. count_by-le-length (λ y. y == t) (open_tiles u)) in
-      let idle : times_open t s.views ≡ 0 = omega (arith, within, k.in_all, taken_le s k) in
+      let idle : times_open t s.views ≡ 0 = omega (arith, within, in_all s k, taken_le s k) in
       (idle, omega arith)
 
   -- where any view has seen all tiles given, all are there
@@ -554,7 +565,6 @@ module _ (key : Key) where
         once = λ u low. omega (arith, k.once u low, opened u, given u);
         no_more = λ u high. omega (arith, k.no_more u high, opened u, given u);
         given = sum_same (λ (u : View). length u.given) s.views id v w at refl ∙ k.given;
-        in_all = omega (arith, k.in_all, sum_same (λ (u : View). length (open_tiles u)) s.views id v w at refl);
         homes = λ u low none_open there.
             let apart : u ≢ t = (λ e. let here = times-same t v.collected in let moved : times u (t ∷ v.collected) ≡ times t (t ∷ v.collected) = ap (λ y. times y (t ∷ v.collected)) e in omega (arith, there)) in
             let home = k.homes u low (omega (arith, none_open, opened u)) (omega (arith, there, times-more u t v.collected, earlier u)) in
@@ -588,7 +598,7 @@ module _ (key : Key) where
         collect_kept s k id v at leads all t below (set s.words 1 x) (ap (λ y. set s.words 1 y) x_is ∙ ap (λ ws. set ws 1 k.gives) k.words),
         record {
           idle = seen_all s k v (ap (get_elem? s.views) (sym here) ∙ at) seen id v at;
-          taken = (home.0, refl, subst (λ q. IsFilled q t home.0) (sym old.keyed) (home.3 given.1));
+          taken = (home.0, refl {a = (collecting v t, (t, Some home.0) ∷ me.1)}, subst (λ q. IsFilled q t home.0) (sym old.keyed) (home.3 given.1));
         },
       )
 
@@ -607,7 +617,6 @@ module _ (key : Key) where
     once = λ t below. absurd (omega (arith, below));
     no_more = λ t above. refl;
     given = refl;
-    in_all = omega arith;
     homes = λ t below none_open none_gathered. let home = there t below in (home.0, at_map some slots t (Some home.0) home.1, home.2, λ some_given. absurd (omega (arith, some_given)));
     collected = λ t some_there. absurd (omega (arith, some_there));
     late = omega arith;

@@ -46,7 +46,6 @@ pub record Kept (key : Key) (s : Claimed) : Type 0 where
   pub once : (tile : ℕ) → tile < taken stop claims (tiles_of key) → times_open tile s.views + times_given tile s.views ≡ 1
   pub no_more : (tile : ℕ) → taken stop claims (tiles_of key) ≤ tile → times_open tile s.views + times_given tile s.views ≡ 0
   pub given : sum_by (λ v. length v.given) s.views ≡ gives
-  pub in_all : sum_by (λ v. length (open_tiles v)) s.views + gives ≡ taken stop claims (tiles_of key)
   -- the slots of all tiles are at home, but for those that are open or collected, and only given tiles are collected
   pub homes : (tile : ℕ) → tile < tiles_of key → times_open tile s.views ≡ 0 → times tile gathered ≡ 0 → IsHome key tile s
   pub collected : (tile : ℕ) → 0 < times tile gathered → 0 < times_given tile s.views
