@@ -14,7 +14,7 @@ use Rattle.tile_claims.specs.declared.view.View.{View}
 use Rattle.tile_claims.specs.Parts.{tiles_of, IsSized, IsFilled}
 use Rattle.tile_claims.specs.Pixels.{Pixels}
 use Rattle.tile_claims.specs.Views.{times, open_tiles, claimed, one_if, taken, new_view, claiming, too_late, giving, looking_at_claims, looking_at_gives, stopping, splitting, beside, collecting, IsAlone}
-use Rattle.tile_claims.specs.Rule.{Claimed, Knows, Kept, IsHome, IsShown, times_open, times_given, Sat, TakesNext, Counts, LooksAtClaims, LooksAtGives, Stops, Collects}
+use Rattle.tile_claims.specs.Rule.{ClaimTable, Knows, Kept, IsHome, IsShown, times_open, times_given, Sat, TakesNext, Counts, LooksAtClaims, LooksAtGives, Stops, Collects}
 use Rattle.tile_claims.proofs.SumLaws.{sum_set, sum_same, sum_at, sum_only, sum_agree, upto, upto-same, upto-add, upto-ones, upto-length, upto-sum, times-same, times-other, times-cons, times-more}
 
 off : false ≡ true → ⊥
@@ -32,7 +32,7 @@ module _ (key : Key) where
   abbrev n : ℕ
   n = tiles_of key
 
-  abbrev Rule : Claimed → Type 0
+  abbrev Rule : ClaimTable → Type 0
   Rule = Kept key
 
   -- each other view knows as much, and the new one knows this
@@ -57,7 +57,7 @@ module _ (key : Key) where
   taken_past (Some m) c c' past more = refl
 
   -- no more tiles are claimed than there are, nor than were claimed
-  taken_le : (s : Claimed) (k : Rule s) → taken k.stop k.claims n ≤ n
+  taken_le : (s : ClaimTable) (k : Rule s) → taken k.stop k.claims n ≤ n
   taken_le s k = by_stop k.stop k.stopped
     where
       by_stop : (stop : Option ℕ) → ((m : ℕ) → stop ≡ Some m → (m ≤ n) × (n ≤ k.claims)) → taken stop k.claims n ≤ n
@@ -65,7 +65,7 @@ module _ (key : Key) where
       by_stop (Some m) stopped = (stopped m refl).0
 
   -- as many tiles are open or given as were claimed
-  in_all : (s : Claimed) (k : Rule s) → sum_by (λ v. length (open_tiles v)) s.views + k.gives ≡ taken k.stop k.claims n
+  in_all : (s : ClaimTable) (k : Rule s) → sum_by (λ v. length (open_tiles v)) s.views + k.gives ≡ taken k.stop k.claims n
   in_all s k =
       let c : ℕ = taken k.stop k.claims n in
       let opened = sum_agree (λ (v : View). upto (λ t. times t (open_tiles v)) c) (λ (v : View). length (open_tiles v)) s.views (λ i v at.
@@ -87,12 +87,12 @@ module _ (key : Key) where
 
   -- laws of the rule
 
-  pub once_at_most : (s : Claimed) → Rule s → (tile : ℕ) → times_open tile s.views + times_given tile s.views ≤ 1
+  pub once_at_most : (s : ClaimTable) → Rule s → (tile : ℕ) → times_open tile s.views + times_given tile s.views ≤ 1
   once_at_most s k tile = dite (dec_le (taken k.stop k.claims n) tile)
       (λ le. omega (arith, k.no_more tile le))
       (λ nle. omega (arith, k.once tile (lt_of_not-le nle)))
 
-  none_open : (s : Claimed) (k : Rule s) → taken k.stop k.claims n ≤ k.gives → (seat : ℕ) (v : View) → get_elem? s.views seat ≡ some v → v.opened ≡ None
+  none_open : (s : ClaimTable) (k : Rule s) → taken k.stop k.claims n ≤ k.gives → (seat : ℕ) (v : View) → get_elem? s.views seat ≡ some v → v.opened ≡ None
   none_open s k all seat v at = by_tile v.opened (omega (arith, in_all s k, sum_at (λ (u : View). length (open_tiles u)) s.views seat v at))
     where
       by_tile : (tile : Option ℕ) → length (option_to_list tile) ≤ 0 → tile ≡ None
@@ -100,14 +100,14 @@ module _ (key : Key) where
       by_tile (Some t) le = absurd (omega arith)
 
   -- where the first seat has seen as many tiles given as were claimed, none is open
-  pub seen_all : (s : Claimed) → Rule s → (v : View) → get_elem? s.views 0 ≡ some v → v.gives.last ≡ tiles_of v.key
+  pub seen_all : (s : ClaimTable) → Rule s → (v : View) → get_elem? s.views 0 ≡ some v → v.gives.last ≡ tiles_of v.key
       → (seat : ℕ) (u : View) → get_elem? s.views seat ≡ some u → u.opened ≡ None
   seen_all s k v at all =
       let mine = k.each 0 v at in
       let keys : tiles_of v.key ≡ n = ap tiles_of mine.keyed in
       none_open s k (omega (arith, mine.gives_seen, taken_le s k, all, keys))
 
-  pub seen_stopped : (s : Claimed) → Rule s → (v : View) → get_elem? s.views 0 ≡ some v → v.stop ≡ Some v.gives.last
+  pub seen_stopped : (s : ClaimTable) → Rule s → (v : View) → get_elem? s.views 0 ≡ some v → v.stop ≡ Some v.gives.last
       → (seat : ℕ) (u : View) → get_elem? s.views seat ≡ some u → u.opened ≡ None
   seen_stopped s k v at all =
       let mine = k.each 0 v at in
@@ -121,7 +121,7 @@ module _ (key : Key) where
   succ c = (c + 1) % 2 ^ 64
 
   -- the count of claims does not wrap
-  no_wrap : (s : Claimed) (k : Rule s) → n ≤ 65536 → succ k.claims ≡ k.claims + 1
+  no_wrap : (s : ClaimTable) (k : Rule s) → n ≤ 65536 → succ k.claims ≡ k.claims + 1
   no_wrap s k small =
       let late = late_count s.views in
       let all = ones s.views in
@@ -135,14 +135,14 @@ module _ (key : Key) where
       ones (v ∷ vs) = let rest = ones vs in omega (arith, sum_by-cons (λ (u : View). 1) v vs)
 
   -- where tiles are left, the claims were not stopped
-  going : (s : Claimed) (k : Rule s) → k.claims < n → taken k.stop k.claims n ≡ k.claims
+  going : (s : ClaimTable) (k : Rule s) → k.claims < n → taken k.stop k.claims n ≡ k.claims
   going s k left = by_stop k.stop k.stopped
     where
       by_stop : (stop : Option ℕ) → ((m : ℕ) → stop ≡ Some m → (m ≤ n) × (n ≤ k.claims)) → taken stop k.claims n ≡ k.claims
       by_stop None stopped = omega arith
       by_stop (Some m) stopped = absurd (omega (arith, (stopped m refl).1))
 
-  going_on : (s : Claimed) (k : Rule s) → k.claims < n → taken k.stop (k.claims + 1) n ≡ k.claims + 1
+  going_on : (s : ClaimTable) (k : Rule s) → k.claims < n → taken k.stop (k.claims + 1) n ≡ k.claims + 1
   going_on s k left = by_stop k.stop k.stopped
     where
       by_stop : (stop : Option ℕ) → ((m : ℕ) → stop ≡ Some m → (m ≤ n) × (n ≤ k.claims)) → taken stop (k.claims + 1) n ≡ k.claims + 1
@@ -150,7 +150,7 @@ module _ (key : Key) where
       by_stop (Some m) stopped = absurd (omega (arith, (stopped m refl).1))
 
   -- a seat that is alone has claimed all that is claimed
-  alone_claimed : (s : Claimed) (k : Rule s) (id : ℕ) (v : View) → get_elem? s.views id ≡ some v → IsAlone v → claimed v ≡ taken v.stop k.claims n
+  alone_claimed : (s : ClaimTable) (k : Rule s) (id : ℕ) (v : View) → get_elem? s.views id ≡ some v → IsAlone v → claimed v ≡ taken v.stop k.claims n
   alone_claimed s k id v at lone =
       let leads = (k.each id v at).leads lone.0 in
       let seats = k.seats in
@@ -160,7 +160,7 @@ module _ (key : Key) where
       let stop : taken v.stop k.claims n ≡ taken k.stop k.claims n = ap (λ t. taken t k.claims n) leads.0 in
       omega (arith, in_all s k, k.given)
 
-  alone_going : (s : Claimed) (k : Rule s) (id : ℕ) (v : View) → get_elem? s.views id ≡ some v → IsAlone v → v.stop ≡ None → min k.claims (tiles_of v.key) ≡ claimed v
+  alone_going : (s : ClaimTable) (k : Rule s) (id : ℕ) (v : View) → get_elem? s.views id ≡ some v → IsAlone v → v.stop ≡ None → min k.claims (tiles_of v.key) ≡ claimed v
   alone_going s k id v at lone goes =
       let all = alone_claimed s k id v at lone in
       let stop : taken v.stop k.claims n ≡ min k.claims n = ap (λ t. taken t k.claims n) goes in
@@ -168,7 +168,7 @@ module _ (key : Key) where
       omega arith
 
   -- the rule, where a seat's view changes but for its tiles, and the count of claims rises
-  rekept : (s : Claimed) (k : Rule s) (id : ℕ) (v w : View) → get_elem? s.views id ≡ some v → (c g : ℕ) (stop : Option ℕ) (words : List ℕ)
+  rekept : (s : ClaimTable) (k : Rule s) (id : ℕ) (v w : View) → get_elem? s.views id ≡ some v → (c g : ℕ) (stop : Option ℕ) (words : List ℕ)
       → words ≡ c ∷ g ∷ [] → g ≡ k.gives → open_tiles w ≡ open_tiles v → w.given ≡ v.given
       → taken stop c n ≡ taken k.stop k.claims n
       → c ≤ n + sum_by (λ u. one_if u.late) (set s.views id w)
@@ -204,13 +204,13 @@ module _ (key : Key) where
   none_if (suc m) nothing = absurd (nothing (omega arith))
 
   -- a tile that nobody has claimed is in its slot
-  unclaimed : (s : Claimed) (k : Rule s) (t : ℕ) → t < n → taken k.stop k.claims n ≤ t → IsHome key t s
+  unclaimed : (s : ClaimTable) (k : Rule s) (t : ℕ) → t < n → taken k.stop k.claims n ≤ t → IsHome key t s
   unclaimed s k t below above =
       let nobody = k.no_more t above in
       k.homes t below (omega arith) (none_if (times t k.gathered) (λ some_there. omega (arith, k.collected t some_there)))
 
   -- the rule after a tile was claimed
-  claim_kept : (s : Claimed) (k : Rule s) (id : ℕ) (v : View) → get_elem? s.views id ≡ some v → v.opened ≡ None → k.claims < n
+  claim_kept : (s : ClaimTable) (k : Rule s) (id : ℕ) (v : View) → get_elem? s.views id ≡ some v → v.opened ≡ None → k.claims < n
       → (x c : ℕ) → x ≡ k.claims → c ≡ k.claims + 1 → (words : List ℕ) → words ≡ c ∷ k.gives ∷ []
       → Rule record { words = words; homes = set s.homes x none; views = set s.views id (claiming v x) }
   claim_kept s k id v at idle left x c x_is c_is words words_are =
@@ -312,7 +312,7 @@ module _ (key : Key) where
   -- give
 
   -- the rule after the open tile was given, and its pixels put into their slot
-  give_kept : (s : Claimed) (k : Rule s) (id : ℕ) (v : View) → get_elem? s.views id ≡ some v → (t : ℕ) (p : Pixels) → v.opened ≡ Some t → IsFilled key t p → length s.homes ≡ n
+  give_kept : (s : ClaimTable) (k : Rule s) (id : ℕ) (v : View) → get_elem? s.views id ≡ some v → (t : ℕ) (p : Pixels) → v.opened ≡ Some t → IsFilled key t p → length s.homes ≡ n
       → (g : ℕ) → g ≡ k.gives + 1 → (words : List ℕ) → words ≡ k.claims ∷ g ∷ []
       → Rule record { words = words; homes = set s.homes t (some (Some p)); views = set s.views id (giving v t) }
   give_kept s k id v at t p is filled long g g_is words words_are =
@@ -516,7 +516,7 @@ module _ (key : Key) where
   -- collect
 
   -- where a view has seen all tiles given, each is given, and none is open
-  all_given : (s : Claimed) (k : Rule s) → n ≤ k.gives → (t : ℕ) → t < n → (times_open t s.views ≡ 0) × (0 < times_given t s.views)
+  all_given : (s : ClaimTable) (k : Rule s) → n ≤ k.gives → (t : ℕ) → t < n → (times_open t s.views ≡ 0) × (0 < times_given t s.views)
   all_given s k all t below =
       let once = k.once t (omega (arith, taken_le s k, in_all s k)) in
       let within : times_open t s.views ≤ sum_by (λ (u : View). length (open_tiles u)) s.views =
@@ -525,7 +525,7 @@ module _ (key : Key) where
       (idle, omega arith)
 
   -- where any view has seen all tiles given, all are there
-  pub seen_shown : (s : Claimed) → Rule s → (seat : ℕ) (v : View) → get_elem? s.views seat ≡ some v → v.gives.last ≡ tiles_of v.key → (t : ℕ) → t < n → IsShown key t s
+  pub seen_shown : (s : ClaimTable) → Rule s → (seat : ℕ) (v : View) → get_elem? s.views seat ≡ some v → v.gives.last ≡ tiles_of v.key → (t : ℕ) → t < n → IsShown key t s
   seen_shown s k seat v at all t below =
       let mine = k.each seat v at in
       let keys : tiles_of v.key ≡ n = ap tiles_of mine.keyed in
@@ -540,7 +540,7 @@ module _ (key : Key) where
       }
 
   -- the rule after a tile was collected
-  collect_kept : (s : Claimed) (k : Rule s) (id : ℕ) (v : View) → get_elem? s.views id ≡ some v → v.first ≡ true → n ≤ k.gives → (t : ℕ) → t < n → (words : List ℕ) → words ≡ k.claims ∷ k.gives ∷ []
+  collect_kept : (s : ClaimTable) (k : Rule s) (id : ℕ) (v : View) → get_elem? s.views id ≡ some v → v.first ≡ true → n ≤ k.gives → (t : ℕ) → t < n → (words : List ℕ) → words ≡ k.claims ∷ k.gives ∷ []
       → Rule record { words = words; homes = set s.homes t none; views = set s.views id (collecting v t) }
   collect_kept s k id v at leads all t below words words_are =
       let w : View = collecting v t in

@@ -10,8 +10,8 @@ use Rattle.tile_claims.specs.Pixels.{Pixels}
 use Rattle.tile_claims.specs.Views.{times, open_tiles, claimed, one_if, taken, claiming, too_late, giving, looking_at_claims, looking_at_gives, stopping, collecting, IsAlone}
 
 -- a table of claims: its words are the counts of claimed and of given tiles, and slot i has tile i's pixels
-abbrev pub Claimed : Type 0
-Claimed = State (Option Pixels) View
+abbrev pub ClaimTable : Type 0
+ClaimTable = State (Option Pixels) View
 
 -- What one view may say where the counts stand so. The first seat is seat 0, and `stop`, `gathered` and `splits` are what its view says
 pub record Knows (key : Key) (claims gives : ℕ) (stop : Option ℕ) (gathered : List ℕ) (splits seat : ℕ) (v : View) : Type 0 where
@@ -30,11 +30,11 @@ abbrev pub times_given : ℕ → List View → ℕ
 times_given tile views = sum_by (λ v. times tile v.given) views
 
 -- the tile's slot is at home with its pixels, which are filled where it is given
-abbrev pub IsHome : Key → ℕ → Claimed → Type 0
+abbrev pub IsHome : Key → ℕ → ClaimTable → Type 0
 IsHome key tile s = (p : Pixels) × (get_elem? s.homes tile ≡ some (some (Some p))) × IsSized key tile p × (0 < times_given tile s.views → IsFilled key tile p)
 
 -- The rule. `stop`, `gathered` and `splits` are what the first seat's view says, and `taken stop claims (tiles_of key)` is how many tiles are claimed
-pub record Kept (key : Key) (s : Claimed) : Type 0 where
+pub record Kept (key : Key) (s : ClaimTable) : Type 0 where
   pub claims : ℕ
   pub gives : ℕ
   pub stop : Option ℕ
@@ -64,7 +64,7 @@ abbrev pub HasSeenStopped : View → Type 0
 HasSeenStopped v = v.stop ≡ Some v.gives.last
 
 -- the tile is given, and filled, in its slot where the first seat has not collected it
-pub record IsShown (key : Key) (tile : ℕ) (s : Claimed) : Type 0 where
+pub record IsShown (key : Key) (tile : ℕ) (s : ClaimTable) : Type 0 where
   pub given : times_given tile s.views ≡ 1
   pub filled : (first : View) → get_elem? s.views 0 ≡ some first → times tile first.collected ≡ 0
       → (p : Pixels) × (get_elem? s.homes tile ≡ some (some (Some p))) × IsFilled key tile p

@@ -310,6 +310,25 @@ fn a_stop_leaves_nothing_to_claim(rt: HostRuntime) -> Result<(), Fail> {
     Ok(())
 }
 
+#[test]
+fn a_stop_counts_what_is_open(rt: HostRuntime) -> Result<(), Fail> {
+    let scene = half_red(&rt, rt.alloc(), 17, 1)?;
+    let (claims, mut seat) = Claims::new(rt.alloc(), naming(&scene)).map_err(|_| "out of memory")?;
+    let mut open = claims.claim(&mut seat).expect(&rt, "a tile is left");
+    assert_eq!(rt; claims.stop(&mut seat), 1);
+    assert_eq!(rt;
+        (claims.claimed(&mut seat), claims.given(&mut seat)),
+        (2, 0)
+    );
+    fill(&claims, &mut open, &scene);
+    claims.give(&mut seat, open);
+    assert_eq!(rt; claims.given(&mut seat), 1);
+    let none = claims.claim(&mut seat);
+    assert!(rt; none.is_none());
+    let None = none else { unreachable!() };
+    Ok(())
+}
+
 /// Two threads claim, fill and give tiles until none is left. Answers the first seat, and how many tiles each gave.
 fn two_workers<R: Threads + Sync>(
     rt: &R,
