@@ -250,6 +250,22 @@ module _ (key : Key) where
         stopped = λ m is. ((k.stopped m is).0, omega (arith, (k.stopped m is).1));
       }
 
+  -- what a seat says of a stop is so
+  says_stop : (s : ClaimTable) (k : Rule s) (id : ℕ) (v : View) → get_elem? s.views id ≡ some v → (m : ℕ) → v.stop ≡ Some m → k.stop ≡ Some m
+  says_stop s k id v at m is = by_first v.first refl
+    where
+      by_first : (b : Bool) → v.first ≡ b → k.stop ≡ Some m
+      by_first true leads = sym ((k.each id v at).leads leads).0 ∙ is
+      by_first false later = (let stop = ((k.each id v at).later later).0 in cc)
+
+  -- where tiles are left, no seat has stopped the claims
+  says_going : (s : ClaimTable) (k : Rule s) (id : ℕ) (v : View) → get_elem? s.views id ≡ some v → k.claims < n → v.stop ≡ None
+  says_going s k id v at left = by_stop v.stop refl
+    where
+      by_stop : (stop : Option ℕ) → v.stop ≡ stop → stop ≡ None
+      by_stop None is = refl
+      by_stop (Some m) is = absurd (omega (arith, (k.stopped m (says_stop s k id v at m is)).1))
+
   pub takes_next : (slots id : ℕ) (me : Sat) → n ≤ 65536 → me.0.opened ≡ None → me.0.late ≡ false
       → Allows Rule slots id me 0 succ (TakesNext (step slots 0 1 0 none) me)
   takes_next slots id me small idle in_time s k deep at fits = dite (dec_le n x) too_late_case taken_case
@@ -291,7 +307,7 @@ module _ (key : Key) where
                 (λ m is. ((k.stopped m is).0, omega (arith, up, (k.stopped m is).1)))
                 (λ j u apart there. knows_more k.claims k.gives (succ x) k.gives k.stop k.gathered k.splits j u (omega (arith, up)) (omega arith) (k.each j u there))
                 record { keyed = old.keyed; first = old.first; leads = old.leads; later = old.later; claims_seen = omega (arith, up, old.claims_seen); gives_seen = old.gives_seen },
-            record { taken = λ below. absurd (omega (arith, keys, below)); late = λ _. refl; alone = alone },
+            record { taken = λ below. absurd (omega (arith, keys, below)); going = λ below. absurd (omega (arith, keys, below)); late = λ _. refl; alone = alone },
           )
 
       taken_case : (n ≤ x → ⊥) → (w : View) × (a : Act (Option Pixels)) × Valid s.homes me.1 a × Rule (stepped s 0 (succ x) id me.1 w a) × TakesNext (step slots 0 1 0 none) me x (w, carried_after me.1 a)
@@ -304,6 +320,7 @@ module _ (key : Key) where
             claim_kept s k id v at idle (omega (arith, x_is)) x (succ x) x_is up (set s.words 0 (succ x)) words_are,
             record {
               taken = λ _. (home.0, refl, subst (λ q. IsSized q x home.0) (sym (k.each id v at).keyed) home.2);
+              going = λ _. says_going s k id v at (omega (arith, x_is));
               late = λ past. absurd (omega (arith, keys, past));
               alone = alone;
             },
@@ -413,6 +430,7 @@ module _ (key : Key) where
           seen = refl;
           rises = omega (arith, old.gives_seen);
           within = omega (arith, taken_le s k, in_all s k);
+          stopped = λ m is. let same : taken k.stop k.claims n ≡ m = ap (λ t. taken t k.claims n) (says_stop s k id v at m is) in omega (arith, same, in_all s k);
           alone = λ lone.
               let leads = old.leads lone.0 in
               let one : length s.views ≡ 1 = omega (arith, lone.1, leads.2, k.seats) in
@@ -462,6 +480,7 @@ module _ (key : Key) where
             record { keyed = old.keyed; first = old.first; leads = λ _. (refl, (old.leads leads).1, (old.leads leads).2); later = λ is. absurd (off (sym is ∙ leads)); claims_seen = omega (arith, old.claims_seen); gives_seen = old.gives_seen },
         record {
           seen = refl;
+          rises = (omega (arith, old.claims_seen), omega (arith, old.gives_seen, in_all s k));
           alone = λ lone. ap (λ y. min y (tiles_of v.key)) x_is ∙ alone_going s k id v at lone goes;
         },
       )

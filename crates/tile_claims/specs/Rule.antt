@@ -56,7 +56,7 @@ pub record Kept (key : Key) (s : ClaimTable) : Type 0 where
   -- once the claims are stopped, the count of claims has passed all tiles
   pub stopped : (m : ℕ) → stop ≡ Some m → (m ≤ tiles_of key) × (tiles_of key ≤ claims)
 
--- the first seat has seen all tiles given, or as many as were claimed when it stopped the claims
+-- the seat has seen all tiles given, or as many as were claimed when it stopped the claims
 abbrev pub HasSeenAll : View → Type 0
 HasSeenAll v = v.gives.last ≡ tiles_of v.key
 
@@ -81,9 +81,11 @@ AreClaimedOnce views = (tile : ℕ) → times_open tile views + times_given tile
 abbrev pub Sat : Type 0
 Sat = Me (Option Pixels) View
 
--- Where fewer tiles than all were claimed, the seat holds the slot of the one of this number; else it has claimed too late. A seat that is alone finds as many claimed as it has claimed itself
+-- Where fewer tiles than all were claimed, and the claims were not stopped, the seat holds the slot of the one of this number; else it has claimed too late.
+-- A seat that is alone finds as many claimed as it has claimed itself
 pub record TakesNext (step : Step (Option Pixels)) (before : Sat) (found : ℕ) (after : Sat) : Type 0 where
   pub taken : found < tiles_of before.0.key → (p : Pixels) × (after ≡ (claiming before.0 found, (found, Some p) ∷ before.1)) × IsSized before.0.key found p
+  pub going : found < tiles_of before.0.key → before.0.stop ≡ None
   pub late : tiles_of before.0.key ≤ found → after ≡ (too_late before.0, before.1)
   pub alone : IsAlone before.0 → before.0.stop ≡ None → min found (tiles_of before.0.key) ≡ claimed before.0
 
@@ -97,16 +99,18 @@ pub record LooksAtClaims (step : Step (Option Pixels)) (before : Sat) (found : �
   pub rises : before.0.claims.last ≤ found
   pub alone : IsAlone before.0 → before.0.stop ≡ None → min found (tiles_of before.0.key) ≡ claimed before.0
 
--- a look at the count of given tiles: not below the last one, nor above the number of tiles
+-- a look at the count of given tiles: not below the last one, nor above how many there are, or were claimed
 pub record LooksAtGives (step : Step (Option Pixels)) (before : Sat) (found : ℕ) (after : Sat) : Type 0 where
   pub seen : after ≡ (looking_at_gives before.0 found, before.1)
   pub rises : before.0.gives.last ≤ found
   pub within : found ≤ tiles_of before.0.key
+  pub stopped : (m : ℕ) → before.0.stop ≡ Some m → found ≤ m
   pub alone : IsAlone before.0 → found ≡ length before.0.given
 
--- the claims are stopped
+-- the claims are stopped: no fewer were claimed than were seen before
 pub record Stops (step : Step (Option Pixels)) (before : Sat) (found : ℕ) (after : Sat) : Type 0 where
   pub seen : after ≡ (stopping before.0 (min found (tiles_of before.0.key)), before.1)
+  pub rises : (min before.0.claims.last (tiles_of before.0.key) ≤ min found (tiles_of before.0.key)) × (before.0.gives.last ≤ min found (tiles_of before.0.key))
   pub alone : IsAlone before.0 → min found (tiles_of before.0.key) ≡ claimed before.0
 
 -- the seat, at which no tile is open, holds the slot of the tile, which is filled

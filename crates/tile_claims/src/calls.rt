@@ -1,5 +1,5 @@
 //! The calls of claims.
-ghost use Rattle.std.specs.Prelude.{◌≡◌, ◌^◌, ◌<◌, ◌≤◌, Some, None, true, false, min, length, IfSome, IfNone, IfOk};
+ghost use Rattle.std.specs.Prelude.{◌≡◌, ℕ, ◌^◌, ◌<◌, ◌≤◌, Some, None, true, false, min, length, IfSome, IfNone, IfOk};
 ghost use Rattle.std.specs.Borrow.{sem, Array as Row, Lends, u8 as byte};
 ghost use Rattle.picture_model.specs.Limits.{IsSide};
 ghost use Rattle.tile_claims.specs.Parts.{tiles_of, IsFilled};
@@ -119,6 +119,7 @@ impl Claims {
         ensures seat { IsSeatOf self.now seat.new × IsSameSeat seat.old seat.new }
         ensures some { IfSome result (λ c. view seat.new ≡ claiming (view seat.old) (tile_of c)) }
         ensures claim { IfSome result (λ c. IsClaimOf self.now c × IsOpenAt seat.new c) }
+        ensures going { IfSome result (λ c. (view seat.old).stop ≡ None) }
         ensures none { IfNone result (view seat.new ≡ too_late (view seat.old)) }
         ensures some_alone { IfSome result (λ c. IsAlone (view seat.old) → (view seat.old).stop ≡ None
             → tile_of c ≡ claimed (view seat.old)) }
@@ -146,14 +147,15 @@ impl Claims {
         self.frame.put_back(&mut seat.seat, tile, pixels);
     }
 
-    /// How many tiles are given. The count never falls, and with it all tiles' pixels are there: where
-    /// it is the number of tiles, or what [`Claims::stop`] answered, no tile is open at any seat.
+    /// How many tiles are given; the count never falls. Where it is the number of tiles, all pixels are
+    /// there. Where it is that, or what [`Claims::stop`] answered, no tile is open at any seat.
     pub fn given(&self, seat: &mut Seat) -> u64
         requires seat { IsSeatOf self.now seat.old }
         ensures seat { IsSeatOf self.now seat.new × IsSameSeat seat.old seat.new }
         ensures view { view seat.new ≡ looking_at_gives (view seat.old) result }
         ensures rises { (view seat.old).gives.last ≤ result }
         ensures within { result ≤ tiles_of (key_of self.now) }
+        ensures stopped { (m : ℕ) → (view seat.old).stop ≡ Some m → result ≤ m }
         ensures alone { IsAlone (view seat.old) → result ≡ length (view seat.old).given }
     {
         self.frame.look_at_gives(&mut seat.seat)
@@ -172,7 +174,8 @@ impl Claims {
         read.min(self.frame.tiles as u64)
     }
 
-    /// Stops the claims: from now on each is None. Answers how many tiles were claimed, at most all.
+    /// Stops the claims: from now on each is None. Answers how many tiles were claimed, at most all; once
+    /// as many are given, no tile is open at any seat.
     pub fn stop(&self, seat: &mut Seat) -> u64
         requires seat { IsSeatOf self.now seat.old }
         requires first { (view seat.old).first ≡ true }
@@ -180,6 +183,8 @@ impl Claims {
         ensures seat { IsSeatOf self.now seat.new × IsSameSeat seat.old seat.new }
         ensures view { view seat.new ≡ stopping (view seat.old) result }
         ensures within { result ≤ tiles_of (key_of self.now) }
+        ensures claims { min (view seat.old).claims.last (tiles_of (key_of self.now)) ≤ result }
+        ensures gives { (view seat.old).gives.last ≤ result }
         ensures alone { IsAlone (view seat.old) → result ≡ claimed (view seat.old) }
     {
         let read = self.frame.pass_all(&mut seat.seat);

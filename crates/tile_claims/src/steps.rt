@@ -1,5 +1,5 @@
 //! The steps on a table of claims.
-ghost use Rattle.std.specs.Prelude.{◌≡◌, ◌+◌, ◌^◌, ◌<◌, ◌≤◌, Some, None, true, false, ◌∷◌, [], min, length, IfSome, IfNone};
+ghost use Rattle.std.specs.Prelude.{◌≡◌, ℕ, ◌+◌, ◌^◌, ◌<◌, ◌≤◌, Some, None, true, false, ◌∷◌, [], min, length, IfSome, IfNone};
 ghost use Rattle.atomic_table.specs.Table.{rest};
 ghost use Rattle.tile_claims.specs.Parts.{tiles_of, IsSized, IsFilled};
 ghost use Rattle.tile_claims.specs.Rule.{HasSeenAll};
@@ -20,6 +20,7 @@ impl Frame {
         ensures seat { (seat.new.table_id ≡ seat.old.table_id) × (seat.new.id ≡ seat.old.id) }
         ensures some { IfSome result (λ t. seat.new.me ≡ (claiming seat.old.me.0 t.0, (t.0, None) ∷ seat.old.me.1)) }
         ensures within { IfSome result (λ t. t.0 < self.now.tiles) }
+        ensures going { IfSome result (λ t. seat.old.me.0.stop ≡ None) }
         ensures sized { IfSome result (λ t. IsSized self.now.table.shared.key t.0 t.1) }
         ensures none { IfNone result (seat.new.me ≡ (too_late seat.old.me.0, seat.old.me.1)) }
         ensures some_alone { IfSome result (λ t. IsAlone seat.old.me.0 → seat.old.me.0.stop ≡ None → t.0 ≡ claimed seat.old.me.0) }
@@ -68,6 +69,7 @@ impl Frame {
         ensures view { seat.new.me ≡ (looking_at_gives seat.old.me.0 result, seat.old.me.1) }
         ensures rises { seat.old.me.0.gives.last ≤ result }
         ensures within { result ≤ tiles_of seat.old.me.0.key }
+        ensures stopped { (m : ℕ) → seat.old.me.0.stop ≡ Some m → result ≤ m }
         ensures alone { IsAlone seat.old.me.0 → result ≡ length seat.old.me.0.given }
     {
         self.table.shared.load::<LookAtGives>(seat, 1)
@@ -80,6 +82,8 @@ impl Frame {
         requires going { seat.old.me.0.stop ≡ None }
         ensures seat { (seat.new.table_id ≡ seat.old.table_id) × (seat.new.id ≡ seat.old.id) }
         ensures view { seat.new.me ≡ (stopping seat.old.me.0 (min result (tiles_of seat.old.me.0.key)), seat.old.me.1) }
+        ensures claims { min seat.old.me.0.claims.last (tiles_of seat.old.me.0.key) ≤ min result (tiles_of seat.old.me.0.key) }
+        ensures gives { seat.old.me.0.gives.last ≤ min result (tiles_of seat.old.me.0.key) }
         ensures alone { IsAlone seat.old.me.0 → min result (tiles_of seat.old.me.0.key) ≡ claimed seat.old.me.0 }
     {
         self.table
