@@ -49,7 +49,7 @@ pub record Kept (key : Key) (s : ClaimTable) : Type 0 where
   -- the slots of all tiles are at home, but for those that are open or collected, and only given tiles are collected
   pub homes : (tile : ℕ) → tile < tiles_of key → times_open tile s.views ≡ 0 → times tile gathered ≡ 0 → IsHome key tile s
   pub collected : (tile : ℕ) → 0 < times tile gathered → 0 < times_given tile s.views
-  -- a view claims too late once at most, and the views are the first one and those that it has split off
+  -- a view claims too late once at most, and the views are the first one and those that it has split off: so the count of claims does not wrap
   pub late : claims ≤ tiles_of key + sum_by (λ v. one_if v.late) s.views
   pub seats : length s.views ≡ splits + 1
   pub few : splits ≤ 2 ^ 20

@@ -17,6 +17,7 @@ use atomic_table::Table;
 use dev_types::NoMemory;
 use picture_model::tile_count;
 use std::alloc::Global;
+use std::marker::Brand;
 use std::snapshot::Snapshot;
 use std::sync::Arc;
 
@@ -202,6 +203,6 @@ impl Claims {
         ensures view { view seat.new ≡ collecting (view seat.old) tile }
         ensures filled { IsFilled (key_of self.now) tile result }
     {
-        self.frame.collect(&mut seat.seat, tile)
+        self.frame.take_out::<Brand>(&mut seat.seat, tile)
     }
 }

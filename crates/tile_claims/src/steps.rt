@@ -8,7 +8,6 @@ ghost use Rattle.tile_claims.specs.Views.{times, claimed, claiming, too_late, gi
 use crate::frame::{Frame, RawSeat};
 use crate::pixels::TilePixels;
 use crate::rule::{Collect, Count, LookAtClaims, LookAtGives, Spread, Stop, TakeNext, Tile};
-use std::marker::Brand;
 
 impl Frame {
     // Takes the next number, and where a tile has it the tile's pixels out of their slot.
@@ -104,7 +103,7 @@ impl Frame {
     }
 
     // Takes the pixels of a tile out of their slot for good.
-    fn take_out<T: Tile>(&self, seat: &mut RawSeat, tile: u32) -> TilePixels
+    pub(crate) fn take_out<T: Tile>(&self, seat: &mut RawSeat, tile: u32) -> TilePixels
         requires named { tile ≡ T.tile }
         requires table { seat.old.table_id ≡ self.now.table.shared.table_id }
         requires first { seat.old.me.0.first ≡ true }
@@ -119,20 +118,5 @@ impl Frame {
         let shared = &self.table.shared;
         shared.load::<Collect<T>>(seat, 1);
         shared.exchange(seat, tile as usize, None).unwrap()
-    }
-
-    // The same, of whichever tile.
-    pub(crate) fn collect(&self, seat: &mut RawSeat, tile: u32) -> TilePixels
-        requires table { seat.old.table_id ≡ self.now.table.shared.table_id }
-        requires first { seat.old.me.0.first ≡ true }
-        requires seen { HasSeenAll seat.old.me.0 }
-        requires within { tile < tiles_of seat.old.me.0.key }
-        requires there { times tile seat.old.me.0.collected ≡ 0 }
-        ensures seat { (seat.new.table_id ≡ seat.old.table_id) × (seat.new.id ≡ seat.old.id) }
-        ensures idle { seat.old.me.0.opened ≡ None }
-        ensures view { seat.new.me ≡ (collecting seat.old.me.0 tile, (tile, None) ∷ seat.old.me.1) }
-        ensures filled { IsFilled seat.old.me.0.key tile result }
-    {
-        self.take_out::<Brand>(seat, tile)
     }
 }
