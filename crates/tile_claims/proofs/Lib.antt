@@ -1,0 +1,4 @@
+pub mod SumLaws
+pub mod ClaimsKept
+pub mod SlotLaws
+pub mod RowLaws

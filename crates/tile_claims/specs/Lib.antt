@@ -1,0 +1,5 @@
+pub mod Pixels
+pub mod Parts
+pub mod Views
+pub mod Rule
+pub mod Seats
