@@ -9,17 +9,20 @@ use Rattle.byte_view.specs.Elements.{Elements, element}
 use Rattle.dev_types.specs.declared.values.Value.{Value}
 use Rattle.fx_math.specs.declared.transforms.Mat34.{Mat34}
 use Rattle.kind_tables.specs.SceneObjects.{Block, SceneObject, SceneObjects, array_named, elements, indices_in, object_at, object_in, scalar_in, value_named, vector, vector_in}
+use Rattle.kind_tables.specs.Scenes.{nothing_of}
 use Rattle.kind_tables.specs.Shapes.{common_radius, corners_by, corners_of, own_radii, positions_of, shapes_by, shapes_of, sphere, triangle}
 use Rattle.kind_tables.specs.declared.kinds.Kind.{Kind}
-use Rattle.kind_tables.specs.declared.kinds.Kind.TheVariants.{GeometrySphere, GeometryTriangle}
-use Rattle.scene_read.specs.Reading.{all_elements, array_in, content_of, lent}
-use Rattle.scene_read.specs.Shaped.{corners_at, count_in, scalars_of_array, sphere_at, triangle_at, triangle_count, vectors_in}
+use Rattle.kind_tables.specs.declared.kinds.Kind.TheVariants.{FrameDefault, GeometrySphere, GeometryTriangle}
+use Rattle.scene_read.proofs.ShownFacts.{named_read}
+use Rattle.scene_read.specs.Reading.{all_elements, array_in, content_of, lent, named_in}
+use Rattle.scene_read.specs.Shaped.{corners_at, corners_in, count_in, scalars_of_array, sphere_at, triangle_at, triangle_count, vectors_in}
+use Rattle.scene_read.specs.Starts.{visited_object}
 
 -- what a function gives of element i, and behind the last one
 pub element_at : {Y : Type 0} (f : Value → Y) (e : Elements) (i : ℕ) (d : Y) → i < e.count → get_or (map f (all_elements e)) i d ≡ f (element e i)
 element_at f e i d l = rw (map-map f (element e) (range_with_len 0 e.count)) (get_or-map-range_with_len (λ k. f (element e k)) 0 e.count i i d l (omega arith))
 
-count_of_elements : {Y : Type 0} (f : Value → Y) (e : Elements) → length (map f (all_elements e)) ≡ e.count
+pub count_of_elements : {Y : Type 0} (f : Value → Y) (e : Elements) → length (map f (all_elements e)) ≡ e.count
 count_of_elements f e = length-map (all_elements e) f ∙ length-map-range_with_len (element e) 0 e.count
 
 pub no_element : {Y : Type 0} (f : Value → Y) (e : Elements) (i : ℕ) (d : Y) → e.count ≤ i → get_or (map f (all_elements e)) i d ≡ d
@@ -40,23 +43,31 @@ named_array : (objects : SceneObjects) (named : Option ℕ) →
 named_array objects None = refl
 named_array objects (Some g) = array_by objects (object_at objects g)
 
-pub array_read : (objects : SceneObjects) (h : ℕ) (o : SceneObject) (name : List ℕ) → object_at objects h ≡ Some o →
-    array_named objects o name ≡ option_map all_elements (array_in objects h name)
-array_read objects h o name e =
+-- the arrays of an object are those that its handle leads to
+abbrev pub ReadsArrays : SceneObjects → ℕ → SceneObject → Type 0
+ReadsArrays objects h o = (name : List ℕ) → array_named objects o name ≡ option_map all_elements (array_in objects h name)
+
+array_read : (objects : SceneObjects) (h : ℕ) (o : SceneObject) → object_at objects h ≡ Some o → ReadsArrays objects h o
+array_read objects h o e name =
     let P : Option SceneObject → Type 0 = λ found.
     array_named objects o name
     ≡ option_map all_elements (option_and_then (content_of objects) (option_and_then object_in (option_and_then (λ o. value_named name o.committed) found))) in
     subst P (sym e) (named_array objects (option_and_then object_in (value_named name o.committed)))
+
+pub array_seen : (objects : SceneObjects) (h : ℕ) → ReadsArrays objects h (visited_object objects h)
+array_seen objects h name =
+    ap (λ (array : Option SceneObject). option_map elements (option_and_then (λ array. array.block) array)) (named_read objects h name)
+    ∙ named_array objects (named_in objects h name)
 
 -- the positions, and how many
 positions_by : (content : Option Elements) → map (λ v. vector_in (Some v)) (unwrap_or (option_map all_elements content) []) ≡ vectors_in content
 positions_by None = refl
 positions_by (Some e) = refl
 
-pub positions_read : (objects : SceneObjects) (h : ℕ) (o : SceneObject) → object_at objects h ≡ Some o →
+pub positions_read : (objects : SceneObjects) (h : ℕ) (o : SceneObject) → ReadsArrays objects h o →
     positions_of objects o ≡ vectors_in (array_in objects h (codes "vertex.position"))
 positions_read objects h o e =
-    ap (λ content. map (λ v. vector_in (Some v)) (unwrap_or content [])) (array_read objects h o (codes "vertex.position") e)
+    ap (λ content. map (λ v. vector_in (Some v)) (unwrap_or content [])) (e (codes "vertex.position"))
     ∙ positions_by (array_in objects h (codes "vertex.position"))
 
 pub count_read : (content : Option Elements) → length (vectors_in content) ≡ count_in content
@@ -69,12 +80,12 @@ corners_read_by : (indices : Option Elements) (positions : Option Elements) →
 corners_read_by None positions = refl
 corners_read_by (Some e) positions = map-map (λ v. indices_in (Some v)) (element e) (range_with_len 0 e.count)
 
-pub corners_read : (objects : SceneObjects) (h : ℕ) (o : SceneObject) → object_at objects h ≡ Some o →
+pub corners_read : (objects : SceneObjects) (h : ℕ) (o : SceneObject) → ReadsArrays objects h o →
     corners_of objects o ≡
     map (corners_at (array_in objects h (codes "primitive.index")))
     (range_with_len 0 (triangle_count (array_in objects h (codes "primitive.index")) (array_in objects h (codes "vertex.position"))))
 corners_read objects h o e =
-    ap (λ indices. corners_by indices (length (positions_of objects o))) (array_read objects h o (codes "primitive.index") e)
+    ap (λ indices. corners_by indices (length (positions_of objects o))) (e (codes "primitive.index"))
     ∙ ap (corners_by (option_map all_elements (array_in objects h (codes "primitive.index")))) (ap length (positions_read objects h o e) ∙ count_read (array_in objects h (codes "vertex.position")))
     ∙ corners_read_by (array_in objects h (codes "primitive.index")) (array_in objects h (codes "vertex.position"))
 
@@ -106,8 +117,8 @@ triangles_by objects h m None e k = cc
 triangles_by objects h m (Some o) e k =
     let kind : o.kind ≡ GeometryTriangle = cc in
     ap (λ kind. shapes_by kind objects o m) kind
-    ∙ ap (λ positions. map (triangle m positions) (corners_of objects o)) (positions_read objects h o e)
-    ∙ ap (map (triangle m (vectors_in (array_in objects h (codes "vertex.position"))))) (corners_read objects h o e)
+    ∙ ap (λ positions. map (triangle m positions) (corners_of objects o)) (positions_read objects h o (array_read objects h o e))
+    ∙ ap (map (triangle m (vectors_in (array_in objects h (codes "vertex.position"))))) (corners_read objects h o (array_read objects h o e))
     ∙ map-map (triangle m (vectors_in (array_in objects h (codes "vertex.position")))) (corners_at (array_in objects h (codes "primitive.index")))
     (range_with_len 0 (triangle_count (array_in objects h (codes "primitive.index")) (array_in objects h (codes "vertex.position"))))
 
@@ -128,9 +139,9 @@ radii_by : (radii : Option Elements) → option_map (map (λ v. scalar_in (Some 
 radii_by None = refl
 radii_by (Some e) = refl
 
-pub radii_read : (objects : SceneObjects) (h : ℕ) (o : SceneObject) → object_at objects h ≡ Some o → own_radii objects o ≡ scalars_of_array (array_in objects h (codes "vertex.radius"))
+pub radii_read : (objects : SceneObjects) (h : ℕ) (o : SceneObject) → ReadsArrays objects h o → own_radii objects o ≡ scalars_of_array (array_in objects h (codes "vertex.radius"))
 radii_read objects h o e =
-    ap (option_map (map (λ v. scalar_in (Some v)))) (array_read objects h o (codes "vertex.radius") e) ∙ radii_by (array_in objects h (codes "vertex.radius"))
+    ap (option_map (map (λ v. scalar_in (Some v)))) (e (codes "vertex.radius")) ∙ radii_by (array_in objects h (codes "vertex.radius"))
 
 spheres_by : (objects : SceneObjects) (h : ℕ) (m : Mat34) (otherwise : SceneObject) (found : Option SceneObject) → object_at objects h ≡ found → option_map (λ o. o.kind) found ≡ Some GeometrySphere →
     option_map_or (λ o. shapes_of objects o m) found []
@@ -141,8 +152,8 @@ spheres_by objects h m otherwise None e k = cc
 spheres_by objects h m otherwise (Some o) e k =
     let kind : o.kind ≡ GeometrySphere = cc in
     ap (λ kind. shapes_by kind objects o m) kind
-    ∙ ap (λ positions. map (sphere m (own_radii objects o) (common_radius o)) (enumerate_from 0 positions)) (positions_read objects h o e)
-    ∙ ap (λ radii. map (sphere m radii (common_radius o)) (enumerate_from 0 (vectors_in (array_in objects h (codes "vertex.position"))))) (radii_read objects h o e)
+    ∙ ap (λ positions. map (sphere m (own_radii objects o) (common_radius o)) (enumerate_from 0 positions)) (positions_read objects h o (array_read objects h o e))
+    ∙ ap (λ radii. map (sphere m radii (common_radius o)) (enumerate_from 0 (vectors_in (array_in objects h (codes "vertex.position"))))) (radii_read objects h o (array_read objects h o e))
     ∙ spheres_of m (array_in objects h (codes "vertex.position")) (array_in objects h (codes "vertex.radius")) (common_radius o)
 
 pub spheres_read : (objects : SceneObjects) (h : ℕ) (m : Mat34) (otherwise : SceneObject) → option_map (λ o. o.kind) (object_at objects h) ≡ Some GeometrySphere →
@@ -168,3 +179,31 @@ pub other_read : (objects : SceneObjects) (h : ℕ) (m : Mat34) →
     (option_map (λ o. o.kind) (object_at objects h) ≡ Some GeometryTriangle → ⊥) → (option_map (λ o. o.kind) (object_at objects h) ≡ Some GeometrySphere → ⊥) →
     option_map_or (λ o. shapes_of objects o m) (object_at objects h) [] ≡ []
 other_read objects h m t s = other_found objects m (object_at objects h) t s
+
+-- how many they are
+pub triangles_counted : (objects : SceneObjects) (h : ℕ) (m : Mat34) → option_map (λ o. o.kind) (object_at objects h) ≡ Some GeometryTriangle →
+    length (option_map_or (λ o. shapes_of objects o m) (object_at objects h) []) ≡ triangle_count (array_in objects h (codes "primitive.index")) (array_in objects h (codes "vertex.position"))
+triangles_counted objects h m k =
+    ap length (triangles_read objects h m k)
+    ∙ length-map-range_with_len (triangle_at m (array_in objects h (codes "vertex.position")) (array_in objects h (codes "primitive.index"))) 0
+    (triangle_count (array_in objects h (codes "primitive.index")) (array_in objects h (codes "vertex.position")))
+
+pub spheres_counted : (objects : SceneObjects) (h : ℕ) (m : Mat34) → option_map (λ o. o.kind) (object_at objects h) ≡ Some GeometrySphere →
+    length (option_map_or (λ o. shapes_of objects o m) (object_at objects h) []) ≡ count_in (array_in objects h (codes "vertex.position"))
+spheres_counted objects h m k =
+    ap length (spheres_read objects h m (nothing_of FrameDefault) k)
+    ∙ length-map-range_with_len
+    (sphere_at m (array_in objects h (codes "vertex.position")) (array_in objects h (codes "vertex.radius")) (common_radius (unwrap_or (object_at objects h) (nothing_of FrameDefault)))) 0
+    (count_in (array_in objects h (codes "vertex.position")))
+
+pub others_counted : (objects : SceneObjects) (h : ℕ) (m : Mat34) →
+    (option_map (λ o. o.kind) (object_at objects h) ≡ Some GeometryTriangle → ⊥) → (option_map (λ o. o.kind) (object_at objects h) ≡ Some GeometrySphere → ⊥) →
+    length (option_map_or (λ o. shapes_of objects o m) (object_at objects h) []) ≡ 0
+others_counted objects h m t s = ap length (other_read objects h m t s)
+
+-- the vertex numbers of triangle k among those of all
+pub corners_counted : (indices positions : Option Elements) → length (corners_in indices positions) ≡ triangle_count indices positions
+corners_counted indices positions = length-map-range_with_len (corners_at indices) 0 (triangle_count indices positions)
+
+pub corners_get : (indices positions : Option Elements) (k : ℕ) → k < triangle_count indices positions → get_or (corners_in indices positions) k [] ≡ corners_at indices k
+corners_get indices positions k l = get_or-map-range_with_len (corners_at indices) 0 (triangle_count indices positions) k k [] l (omega arith)
