@@ -1,0 +1,6 @@
+// The sequential device over plain lists.
+#![tactic(auto)]
+
+pub mod objects;
+pub mod reaches;
+pub mod stage;
