@@ -3,4 +3,8 @@
 
 pub mod objects;
 pub mod reaches;
+pub mod record;
+pub mod refusals;
+pub mod renders;
+pub mod scenes;
 pub mod stage;

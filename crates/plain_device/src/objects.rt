@@ -1,11 +1,13 @@
 //! The objects of a device, as they are kept.
 ghost use Rattle.std.specs.Prelude.{◌==◌, filter, not, ◌≡◌, [], ◌∷◌, ◌++◌, ◌≤◌, ◌^◌, None, IfOk, OnOk, OnErr, length, option_copied};
-ghost use Rattle.std.specs.Option.{option_and_then};
 ghost use Rattle.dev_types.specs.Blocks.{FitsBlock};
-ghost use Rattle.seq_model.specs.State.{is_in_flight};
+ghost use Rattle.std.specs.Option.{is_some, option_map};
+ghost use Rattle.seq_model.specs.State.{array_loan, is_in_flight};
+ghost use Rattle.scene_read.specs.Reading.{IsCounted, lent as lent_block};
 ghost use Rattle.seq_model.specs.Steps.{change_array, commit, end_flight, end_parameter_loan, fresh, holding, lend_parameter, lent, map_channel, set_phase, set_staged, unmap_channel};
-ghost use Rattle.kind_tables.specs.SceneObjects.{with_value, without_value};
+ghost use Rattle.kind_tables.specs.SceneObjects.{value_named, with_value, without_value};
 
+use byte_view::Strided;
 use dev_types::{Bytes, Channel, DataType, Handle, Name, NoMemory, Origin, Value};
 use kind_tables::Kind;
 use std::alloc::{AllocError, Global};
@@ -126,6 +128,45 @@ impl Object {
             array,
             shows: Shows::Nothing,
             channels: Vec::new(alloc),
+        }
+    }
+
+    /// The committed value of a parameter, if there is one.
+    pub fn committed(&self, name: &Name) -> Option<&Value>
+        ensures { option_copied result ≡ value_named name.now self.now.committed }
+    {
+        self.committed.get(name)
+    }
+
+    /// The elements of the array, at most 2^28, where the object is one.
+    pub fn content(&self) -> Option<Strided<'_>>
+        ensures value { result ≡ option_map (λ a. lent_block a.block) self.now.array }
+        ensures size { IsCounted result }
+    {
+        let array = self.array.as_ref()?;
+        Some(Strided::over(
+            array.bytes.as_slice(),
+            array.elem,
+            array.stride,
+            array.count,
+        ))
+    }
+
+    /// The bytes of the array, where the object is one.
+    pub fn bytes(&self) -> Option<&Bytes>
+        ensures { option_copied result ≡ option_map (λ a. a.block.bytes) self.now.array }
+    {
+        let array = self.array.as_ref()?;
+        Some(&array.bytes)
+    }
+
+    /// Whether the object is an array that is lent.
+    pub fn is_lent(&self) -> bool
+        ensures { result ≡ is_some (array_loan self.now) }
+    {
+        match &self.array {
+            Some(array) => array.loan.is_some(),
+            None => false,
         }
     }
 

@@ -1,10 +1,10 @@
 //! The objects of a device by their handles.
 ghost use Rattle.std.specs.Prelude.{◌==◌, not, ◌≡◌, ◌≤◌, ◌∷◌, ◌++◌, [], OnOk, OnErr, Some, length, map, option_copied};
 ghost use Rattle.std.specs.List.{filter};
-ghost use Rattle.std.specs.Option.{option_and_then, option_map_or};
-ghost use Rattle.seq_model.specs.State.{Empty, changed_at, empty, object_at, with_object};
+ghost use Rattle.std.specs.Option.{option_and_then, option_map, option_map_or};
+ghost use Rattle.seq_model.specs.State.{scene_object, scene_objects, Empty, changed_at, empty, object_at, with_object};
 ghost use Rattle.seq_model.specs.Steps.{change_array, commit, discard, end_flights, end_parameter_loan, holding, lend_parameter, lent, map_channel, set_phase, set_staged, unmap_channel};
-ghost use Rattle.kind_tables.specs.SceneObjects.{with_value, without_value};
+ghost use Rattle.kind_tables.specs.SceneObjects.{object_at as scene_at, with_value, without_value};
 ghost use Rattle.handle_table.specs.HandleMaps.{RiseWithin};
 ghost use Rattle.plain_device.specs.Shown.{HasLength, phase_of};
 
@@ -32,7 +32,8 @@ impl Model for Stage {
 impl Stage {
     /// The object with this handle, if it is there.
     pub fn get(&self, h: Handle) -> Option<&Object>
-        ensures { option_copied result ≡ object_at self.now h }
+        ensures value { option_copied result ≡ object_at self.now h }
+        ensures seen { option_map (λ o. scene_object o.now) result ≡ scene_at (scene_objects self.now) h }
     {
         self.objects.get(h)
     }
