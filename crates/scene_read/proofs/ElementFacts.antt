@@ -9,17 +9,20 @@ use Rattle.byte_view.specs.Elements.{Elements, element}
 use Rattle.dev_types.specs.declared.values.Value.{Value}
 use Rattle.fx_math.specs.declared.transforms.Mat34.{Mat34}
 use Rattle.kind_tables.specs.SceneObjects.{Block, SceneObject, SceneObjects, array_named, elements, indices_in, object_at, object_in, scalar_in, value_named, vector, vector_in}
+use Rattle.kind_tables.specs.Scenes.{nothing_of}
 use Rattle.kind_tables.specs.Shapes.{common_radius, corners_by, corners_of, own_radii, positions_of, shapes_by, shapes_of, sphere, triangle}
 use Rattle.kind_tables.specs.declared.kinds.Kind.{Kind}
-use Rattle.kind_tables.specs.declared.kinds.Kind.TheVariants.{GeometrySphere, GeometryTriangle}
-use Rattle.scene_read.specs.Reading.{all_elements, array_in, content_of, lent}
-use Rattle.scene_read.specs.Shaped.{corners_at, count_in, scalars_of_array, sphere_at, triangle_at, triangle_count, vectors_in}
+use Rattle.kind_tables.specs.declared.kinds.Kind.TheVariants.{FrameDefault, GeometrySphere, GeometryTriangle}
+use Rattle.scene_read.proofs.ShownFacts.{named_read}
+use Rattle.scene_read.specs.Reading.{all_elements, array_in, content_of, lent, named_in}
+use Rattle.scene_read.specs.Shaped.{corners_at, corners_in, count_in, scalars_of_array, sphere_at, triangle_at, triangle_count, vectors_in}
+use Rattle.scene_read.specs.Starts.{visited_object}
 
 -- what a function gives of element i, and behind the last one
 pub element_at : {Y : Type 0} (f : Value → Y) (e : Elements) (i : ℕ) (d : Y) → i < e.count → get_or (map f (all_elements e)) i d ≡ f (element e i)
 element_at f e i d l = rw (map-map f (element e) (range_with_len 0 e.count)) (get_or-map-range_with_len (λ k. f (element e k)) 0 e.count i i d l (omega arith))
 
-count_of_elements : {Y : Type 0} (f : Value → Y) (e : Elements) → length (map f (all_elements e)) ≡ e.count
+pub count_of_elements : {Y : Type 0} (f : Value → Y) (e : Elements) → length (map f (all_elements e)) ≡ e.count
 count_of_elements f e = length-map (all_elements e) f ∙ length-map-range_with_len (element e) 0 e.count
 
 pub no_element : {Y : Type 0} (f : Value → Y) (e : Elements) (i : ℕ) (d : Y) → e.count ≤ i → get_or (map f (all_elements e)) i d ≡ d
@@ -168,3 +171,53 @@ pub other_read : (objects : SceneObjects) (h : ℕ) (m : Mat34) →
     (option_map (λ o. o.kind) (object_at objects h) ≡ Some GeometryTriangle → ⊥) → (option_map (λ o. o.kind) (object_at objects h) ≡ Some GeometrySphere → ⊥) →
     option_map_or (λ o. shapes_of objects o m) (object_at objects h) [] ≡ []
 other_read objects h m t s = other_found objects m (object_at objects h) t s
+
+-- how many they are
+pub triangles_counted : (objects : SceneObjects) (h : ℕ) (m : Mat34) → option_map (λ o. o.kind) (object_at objects h) ≡ Some GeometryTriangle →
+    length (option_map_or (λ o. shapes_of objects o m) (object_at objects h) []) ≡ triangle_count (array_in objects h (codes "primitive.index")) (array_in objects h (codes "vertex.position"))
+triangles_counted objects h m k =
+    ap length (triangles_read objects h m k)
+    ∙ length-map-range_with_len (triangle_at m (array_in objects h (codes "vertex.position")) (array_in objects h (codes "primitive.index"))) 0
+    (triangle_count (array_in objects h (codes "primitive.index")) (array_in objects h (codes "vertex.position")))
+
+pub spheres_counted : (objects : SceneObjects) (h : ℕ) (m : Mat34) → option_map (λ o. o.kind) (object_at objects h) ≡ Some GeometrySphere →
+    length (option_map_or (λ o. shapes_of objects o m) (object_at objects h) []) ≡ count_in (array_in objects h (codes "vertex.position"))
+spheres_counted objects h m k =
+    ap length (spheres_read objects h m (nothing_of FrameDefault) k)
+    ∙ length-map-range_with_len
+    (sphere_at m (array_in objects h (codes "vertex.position")) (array_in objects h (codes "vertex.radius")) (common_radius (unwrap_or (object_at objects h) (nothing_of FrameDefault)))) 0
+    (count_in (array_in objects h (codes "vertex.position")))
+
+pub others_counted : (objects : SceneObjects) (h : ℕ) (m : Mat34) →
+    (option_map (λ o. o.kind) (object_at objects h) ≡ Some GeometryTriangle → ⊥) → (option_map (λ o. o.kind) (object_at objects h) ≡ Some GeometrySphere → ⊥) →
+    length (option_map_or (λ o. shapes_of objects o m) (object_at objects h) []) ≡ 0
+others_counted objects h m t s = ap length (other_read objects h m t s)
+
+-- the vertex numbers of triangle k among those of all
+pub corners_counted : (indices positions : Option Elements) → length (corners_in indices positions) ≡ triangle_count indices positions
+corners_counted indices positions = length-map-range_with_len (corners_at indices) 0 (triangle_count indices positions)
+
+pub corners_get : (indices positions : Option Elements) (k : ℕ) → k < triangle_count indices positions → get_or (corners_in indices positions) k [] ≡ corners_at indices k
+corners_get indices positions k l = get_or-map-range_with_len (corners_at indices) 0 (triangle_count indices positions) k k [] l (omega arith)
+
+-- the arrays of a visited object
+pub array_seen : (objects : SceneObjects) (h : ℕ) (name : List ℕ) → array_named objects (visited_object objects h) name ≡ option_map all_elements (array_in objects h name)
+array_seen objects h name =
+    ap (λ (array : Option SceneObject). option_map elements (option_and_then (λ array. array.block) array)) (named_read objects h name)
+    ∙ named_array objects (named_in objects h name)
+
+pub positions_seen : (objects : SceneObjects) (h : ℕ) → positions_of objects (visited_object objects h) ≡ vectors_in (array_in objects h (codes "vertex.position"))
+positions_seen objects h =
+    ap (λ content. map (λ v. vector_in (Some v)) (unwrap_or content [])) (array_seen objects h (codes "vertex.position"))
+    ∙ positions_by (array_in objects h (codes "vertex.position"))
+
+pub corners_seen : (objects : SceneObjects) (h : ℕ) →
+    corners_of objects (visited_object objects h) ≡ corners_in (array_in objects h (codes "primitive.index")) (array_in objects h (codes "vertex.position"))
+corners_seen objects h =
+    ap (λ indices. corners_by indices (length (positions_of objects (visited_object objects h)))) (array_seen objects h (codes "primitive.index"))
+    ∙ ap (corners_by (option_map all_elements (array_in objects h (codes "primitive.index")))) (ap length (positions_seen objects h) ∙ count_read (array_in objects h (codes "vertex.position")))
+    ∙ corners_read_by (array_in objects h (codes "primitive.index")) (array_in objects h (codes "vertex.position"))
+
+pub radii_seen : (objects : SceneObjects) (h : ℕ) → own_radii objects (visited_object objects h) ≡ scalars_of_array (array_in objects h (codes "vertex.radius"))
+radii_seen objects h =
+    ap (option_map (map (λ v. scalar_in (Some v)))) (array_seen objects h (codes "vertex.radius")) ∙ radii_by (array_in objects h (codes "vertex.radius"))

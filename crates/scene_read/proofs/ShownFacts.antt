@@ -1,15 +1,19 @@
 -- What surfaces show, and what a frame names.
-use Rattle.std.proofs.Common.{◌≡◌, ℕ, List, [], Option, Some, None, codes, map, refl, ap, ◌∙◌}
+use Rattle.std.proofs.Common.{◌≡◌, ℕ, true, List, [], Option, Some, None, codes, length, map, refl, ap, sym, ◌∙◌}
 use Rattle.std.specs.List.{enumerate_from}
-use Rattle.std.specs.Option.{option_and_then, option_map, option_map_or, unwrap_or}
+use Rattle.std.specs.Option.{is_some, option_and_then, option_map, option_map_or, unwrap_or}
+use Rattle.std.proofs.lemmas.List.{length-map}
+use Rattle.std.proofs.lemmas.List.FromFn.{length-enumerate_from}
 use Rattle.kind_tables.specs.SceneObjects.{SceneObject, SceneObjects, object_at, object_in, object_named, value_named}
-use Rattle.kind_tables.specs.Scenes.{nothing_of, primitive, surface_primitives}
+use Rattle.kind_tables.specs.Scenes.{nothing_of, primitive, primitives_at, primitives_by, surface_primitives}
 use Rattle.kind_tables.specs.Shapes.{shapes_of}
-use Rattle.kind_tables.specs.Walks.{Spot}
-use Rattle.kind_tables.specs.declared.kinds.Kind.TheVariants.{FrameDefault}
+use Rattle.kind_tables.specs.WalkRefusals.{is_surface}
+use Rattle.kind_tables.specs.Walks.{Spot, Visit}
+use Rattle.kind_tables.specs.declared.kinds.Kind.{Kind}
+use Rattle.kind_tables.specs.declared.kinds.Kind.TheVariants.{FrameDefault, SurfaceDefault}
 use Rattle.scene_read.specs.Reading.{named_in}
 use Rattle.scene_read.specs.Shown.{finish_of, finished, live_in}
-use Rattle.scene_read.specs.Starts.{visited_object}
+use Rattle.scene_read.specs.Starts.{seen, visited_object}
 
 -- what a visited object names
 named_by : (name : List ℕ) (found : Option SceneObject) →
@@ -81,3 +85,25 @@ live_shapes objects spot h geometry name e = by_name (named_in objects h name) e
         option_map_or (λ g. shapes_of objects g spot.transform) (object_at objects geometry) [] ≡ shapes_of objects (visited_object objects geometry) spot.transform
     by_name None e = cc
     by_name (Some k) e = by_object k (object_at objects k) refl e
+
+-- how many primitives a surface shows
+surface_by : (kind : Kind) (objects : SceneObjects) (v : Visit) → is_surface kind ≡ true → primitives_by kind objects v ≡ surface_primitives objects v.spot v.object
+surface_by SurfaceDefault objects v e = refl
+surface_by _ objects v e = cc
+
+counted_by : (objects : SceneObjects) (v : Spot × ℕ) (geometry count : ℕ) (material : Option ℕ) → live_in objects v.1 (codes "material") ≡ material → is_some material ≡ true →
+    live_in objects v.1 (codes "geometry") ≡ Some geometry → count ≡ length (shapes_of objects (visited_object objects geometry) v.0.transform) →
+    count ≡ length (surface_primitives objects v.0 (visited_object objects v.1))
+counted_by objects v geometry count None m some e n = cc
+counted_by objects v geometry count (Some material) m some e n =
+    n
+    ∙ sym (length-enumerate_from 0 (shapes_of objects (visited_object objects geometry) v.0.transform))
+    ∙ sym (length-map (enumerate_from 0 (shapes_of objects (visited_object objects geometry) v.0.transform)) (finished v.0 (finish_of objects v.1 material)))
+    ∙ ap length (sym (surface_read objects v.0 v.1 material geometry m e))
+
+pub surface_counted : (objects : SceneObjects) (v : Spot × ℕ) (geometry count : ℕ) → is_surface (visited_object objects v.1).kind ≡ true → is_some (live_in objects v.1 (codes "material")) ≡ true →
+    live_in objects v.1 (codes "geometry") ≡ Some geometry → count ≡ length (option_map_or (λ g. shapes_of objects g v.0.transform) (object_at objects geometry) []) →
+    count ≡ length (primitives_at objects (seen objects v))
+surface_counted objects v geometry count surface material e n =
+    counted_by objects v geometry count (live_in objects v.1 (codes "material")) refl material e (n ∙ ap length (live_shapes objects v.0 v.1 geometry (codes "geometry") e))
+    ∙ ap length (sym (surface_by (visited_object objects v.1).kind objects (seen objects v) surface))

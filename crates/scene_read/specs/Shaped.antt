@@ -1,5 +1,6 @@
 -- The shapes of a geometry, number by number, from its arrays as they are lent.
 use Rattle.std.specs.Prelude.{ℕ, ℤ, ◌/◌, List, [], Option, Some, None, map}
+use Rattle.std.specs.List.{range_with_len}
 use Rattle.std.specs.Option.{option_map, option_map_or}
 use Rattle.byte_view.specs.Elements.{Elements, element}
 use Rattle.fx_math.specs.declared.scene.Shape.{Shape}
@@ -28,6 +29,10 @@ corners_at None k = next_three k
 abbrev pub triangle_count : Option Elements → Option Elements → ℕ
 triangle_count (Some indices) positions = indices.count
 triangle_count None positions = count_in positions / 3
+
+-- the vertex numbers of all triangles
+abbrev pub corners_in : Option Elements → Option Elements → List (List ℕ)
+corners_in indices positions = map (corners_at indices) (range_with_len 0 (triangle_count indices positions))
 
 -- triangle k, and sphere k
 abbrev pub triangle_at : Mat34 → Option Elements → Option Elements → ℕ → Shape

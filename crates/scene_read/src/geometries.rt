@@ -1,5 +1,5 @@
 //! The triangles and spheres of a geometry under a transform.
-ghost use Rattle.std.specs.Prelude.{◌≡◌, ◌+◌, ◌*◌, ◌<◌, ◌≤◌, ◌^◌, [], Some, IfOk, IfSome, length, map, unsigned_abs, pos, slice_index_or};
+ghost use Rattle.std.specs.Prelude.{◌≡◌, ◌<◌, ◌≤◌, ◌^◌, [], Some, IfOk, IfSome, length, map, unsigned_abs, pos, slice_index_or};
 ghost use Rattle.std.specs.List.{range_with_len};
 ghost use Rattle.std.specs.Option.{option_map_or};
 ghost use Rattle.fx_math.specs.Mat34.{axis_length, column, placed, scaled_radius};
@@ -189,7 +189,7 @@ fn triangles(
 }
 
 /// Element `i` as a scalar, or zero behind the last one.
-fn scalar_at(elements: &Strided<'_>, i: u64) -> i32
+pub(crate) fn scalar_at(elements: &Strided<'_>, i: u64) -> i32
     ensures { result ≡ radius_by (scalars_of_array (Some elements.now)) (pos 0) i }
 {
     if i < elements.len() {
@@ -240,6 +240,25 @@ fn spheres(
         shapes.push(sphere_at(m, positions, radii, common, k))?;
     }
     Ok(shapes)
+}
+
+/// How many shapes a geometry has, under any transform; none where there is no such object.
+pub(crate) fn shape_count<O: Objects>(state: &O, h: Handle) -> u64
+    ensures value { (m : Mat34) → result ≡ length (option_map_or (λ geometry. shapes_of (O.objects state.now) geometry m) (object_at (O.objects state.now) h) []) }
+    ensures size { result ≤ 2 ^ 28 }
+{
+    let Some(kind) = state.kind(h) else {
+        return 0;
+    };
+    let positions = array(state, h, "vertex.position");
+    match kind {
+        Kind::GeometryTriangle => {
+            let indices = array(state, h, "primitive.index");
+            triangle_count(&indices, &positions)
+        }
+        Kind::GeometrySphere => count_in(&positions),
+        _ => 0,
+    }
 }
 
 /// The shapes of a geometry under a transform, at most 2^28; none where there is no such object. A coordinate or a radius

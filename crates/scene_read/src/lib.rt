@@ -3,8 +3,11 @@
 #![tactic(auto)]
 
 pub mod geometries;
+mod geometry_ranges;
 pub mod objects;
+mod ranges;
 pub mod readers;
+pub mod refusals;
 pub mod scenes;
 #[cfg(test)]
 mod tests;
@@ -16,6 +19,7 @@ pub mod walks;
 pub use geometries::shapes;
 pub use objects::Objects;
 pub use readers::Subject;
+pub use refusals::{fault, first_mapped, is_scene_root, walk};
 pub use scenes::{camera, light, scene, sides};
 pub use visits::{Spot, Visit, Visits};
 pub use walks::visits_from;

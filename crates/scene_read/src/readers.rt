@@ -1,6 +1,6 @@
 //! What is read of an object: the values of its parameters, each as committed or by default, and its elements.
-ghost use Rattle.std.specs.Prelude.{◌≡◌, ◌≤◌, ◌^◌, None, Some, IsTrue, slice_index_or};
-ghost use Rattle.std.specs.Option.{option_and_then, option_map, option_map_or, unwrap_or};
+ghost use Rattle.std.specs.Prelude.{◌≡◌, ◌≤◌, ◌^◌, Some, IsTrue};
+ghost use Rattle.std.specs.Option.{option_and_then, option_map};
 ghost use Rattle.dev_types.specs.Bounded.{is_name};
 ghost use Rattle.fx_math.specs.Vec3.{reach};
 ghost use Rattle.kind_tables.specs.SceneObjects.{id_in, matrix_in, object_at, object_in, scalar_in, scalar_of, scalars_in, scalars_of, value_at, value_named, vector, vector_in, vector_of};

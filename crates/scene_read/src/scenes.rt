@@ -1,5 +1,5 @@
 //! The scene of a frame, by what a walk visits.
-ghost use Rattle.std.specs.Prelude.{◌≡◌, ◌≤◌, ◌^◌, ◌++◌, Some, IsTrue, ◌<◌, IfOk, OnOk, length, map, slice_index_or};
+ghost use Rattle.std.specs.Prelude.{◌≡◌, ◌≤◌, ◌^◌, ◌++◌, IsTrue, ◌<◌, IfOk, OnOk, length, map, slice_index_or};
 ghost use Rattle.std.specs.List.{enumerate_from};
 ghost use Rattle.std.specs.Option.{option_to_list};
 ghost use Rattle.dev_types.specs.Bounded.{is_name};
@@ -140,7 +140,7 @@ fn push_shapes(
 }
 
 /// The handle of an object that was committed under a name and is there.
-fn live<O: Objects>(state: &O, h: Handle, text: &str) -> Option<Handle>
+pub(crate) fn live<O: Objects>(state: &O, h: Handle, text: &str) -> Option<Handle>
     requires { IsTrue (is_name text.now) }
     ensures { result ≡ live_in (O.objects state.now) h text.now }
 {

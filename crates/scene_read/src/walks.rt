@@ -1,10 +1,10 @@
 //! The walk through the objects of a scene, from one object down.
-ghost use Rattle.std.specs.Prelude.{◌≡◌, ◌<◌, ◌≤◌, ◌^◌, ◌++◌, [], Some, IsTrue, IfOk, OnOk, unwrap_or};
+ghost use Rattle.std.specs.Prelude.{◌≡◌, ◌<◌, ◌≤◌, ◌^◌, ◌++◌, Some, IsTrue, IfOk, OnOk};
 ghost use Rattle.std.specs.Option.{option_map, option_to_list};
 ghost use Rattle.dev_types.specs.Bounded.{is_name};
 ghost use Rattle.kind_tables.specs.Rows.{parameters_of};
 ghost use Rattle.kind_tables.specs.SceneObjects.{object_at};
-ghost use Rattle.kind_tables.specs.Walks.{at_element, at_parameters_of, below, named_parameters, walk, walk_from};
+ghost use Rattle.kind_tables.specs.Walks.{at_element, at_parameters_of, walk, walk_from};
 ghost use Rattle.scene_read.specs.Reading.{content_of};
 ghost use Rattle.scene_read.specs.Starts.{all_seen, content_starts, element_start, element_starts, parameter_start, parameter_starts, starts_below, starts_of, visited_object};
 
