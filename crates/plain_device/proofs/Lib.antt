@@ -1,1 +1,3 @@
 pub mod Entries
+pub mod NamedFacts
+pub mod RenderFacts

@@ -1,7 +1,12 @@
 // The sequential device over plain lists.
 #![tactic(auto)]
 
+pub mod creations;
+pub mod elements;
+pub mod frames;
+pub mod loans;
 pub mod objects;
+pub mod queries;
 pub mod reaches;
 pub mod record;
 pub mod refusals;

@@ -1,6 +1,7 @@
 //! What happened on a device, and where it stands.
 ghost use Rattle.std.specs.Prelude.{◌≡◌, length, option_copied};
 ghost use Rattle.plain_device.specs.Counts.{count_at};
+ghost use Rattle.plain_device.specs.Kept.{KnowsRenders};
 ghost use Rattle.std.specs.Option.{is_some};
 ghost use Rattle.seq_model.specs.Histories.{public};
 ghost use Rattle.seq_model.specs.Refusals.{dead, first_of, has_type, not_held, own, own_of_type, wrong_kind};
@@ -18,7 +19,7 @@ use std::marker::Model;
 #[derive(Drop)]
 pub struct Record {
     journal: Vec<Entry>,
-    stage: Stage,
+    pub(crate) stage: Stage,
     // What each flight reached, by rising ticket.
     reached: Vec<Reach>,
     // How many public references there are to each handle, from handle 1 on.
@@ -43,6 +44,20 @@ impl Record {
         ensures { result ≡ public self.now.seen h }
     {
         count_at(&self.held, h)
+    }
+
+    /// The objects, by their handles.
+    pub fn stage(&self) -> &Stage
+        ensures { result.now ≡ self.now.state }
+    {
+        &self.stage
+    }
+
+    /// The renders that were done.
+    pub fn renders(&self) -> &[Render]
+        ensures { KnowsRenders self.now.seen result.now }
+    {
+        &self.renders
     }
 
     /// The object with this handle, if it is there.
