@@ -3,7 +3,7 @@ ghost use Rattle.std.specs.Prelude.{◌==◌, not, ◌≡◌, ◌≤◌, ◌∷�
 ghost use Rattle.std.specs.List.{filter};
 ghost use Rattle.std.specs.Option.{option_and_then, option_map_or};
 ghost use Rattle.seq_model.specs.State.{Empty, changed_at, empty, object_at, with_object};
-ghost use Rattle.seq_model.specs.Steps.{change_array, commit, discard, end_flights, end_parameter_loan, holding, lend_parameter, lent, map_channel, set_phase, set_staged, unmap_channel};
+ghost use Rattle.seq_model.specs.Steps.{change_array, commit, discard, end_flight, end_flights, end_parameter_loan, holding, lend_parameter, lent, map_channel, set_phase, set_staged, unmap_channel};
 ghost use Rattle.kind_tables.specs.SceneObjects.{with_value, without_value};
 ghost use Rattle.handle_table.specs.HandleMaps.{RiseWithin};
 ghost use Rattle.plain_device.specs.Shown.{HasLength, phase_of};
@@ -211,6 +211,25 @@ impl Stage {
         ensures { self.new ≡ record self.old { stopped = filter (λ u. not (u == ticket)) self.old.stopped } }
     {
         drop_ticket(&mut self.stopped, ticket);
+    }
+
+    /// Ends the flight with this ticket: its frame shows something else.
+    pub fn end_flights(&mut self, ticket: u64, shows: Shows)
+        ensures { self.new ≡ end_flights ticket (phase_of shows) self.old }
+    {
+        let next = self.next();
+        for h in 1..next.0 {
+            self.end_flight(Handle(h), ticket, shows);
+        }
+    }
+
+    /// Ends the flight with this ticket, if its frame has this handle.
+    fn end_flight(&mut self, h: Handle, ticket: u64, shows: Shows)
+        ensures { self.new ≡ changed_at h (end_flight ticket (phase_of shows)) self.old }
+    {
+        if let Some(object) = self.objects.get_mut(h) {
+            object.end_flight(ticket, shows);
+        }
     }
 }
 
