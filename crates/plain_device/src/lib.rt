@@ -4,3 +4,4 @@
 pub mod objects;
 pub mod reaches;
 pub mod stage;
+mod sweeps;
