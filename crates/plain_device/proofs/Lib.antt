@@ -1,3 +1,6 @@
+pub mod Adding
 pub mod Ended
 pub mod Entries
-pub mod Marks
+pub mod Removals
+pub mod Rounds
+pub mod Turns

@@ -1,7 +1,8 @@
 // The sequential device over plain lists.
 #![tactic(auto)]
 
+mod marks;
 pub mod objects;
 pub mod reaches;
 pub mod stage;
-mod sweeps;
+pub mod sweeps;

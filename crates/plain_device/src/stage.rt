@@ -1,6 +1,9 @@
 //! The objects of a device by their handles.
 ghost use Rattle.std.specs.Prelude.{◌==◌, not, ◌≡◌, ◌≤◌, ◌∷◌, ◌++◌, [], OnOk, OnErr, Some, length, map, option_copied};
+ghost use Rattle.std.specs.BTreeMap.{is_at};
 ghost use Rattle.std.specs.List.{filter};
+ghost use Rattle.std.specs.Map.{remove_entry};
+ghost use Rattle.std.specs.Ordering.{nat_cmp};
 ghost use Rattle.std.specs.Option.{option_and_then, option_map_or};
 ghost use Rattle.seq_model.specs.State.{Empty, changed_at, empty, object_at, with_object};
 ghost use Rattle.seq_model.specs.Steps.{change_array, commit, discard, end_flight, end_flights, end_parameter_loan, holding, lend_parameter, lent, map_channel, set_phase, set_staged, unmap_channel};
@@ -211,6 +214,14 @@ impl Stage {
         ensures { self.new ≡ record self.old { stopped = filter (λ u. not (u == ticket)) self.old.stopped } }
     {
         drop_ticket(&mut self.stopped, ticket);
+    }
+
+    /// Takes an object away; `None` exactly where there is no such object.
+    pub fn remove(&mut self, h: Handle) -> Option<Object>
+        ensures value { result ≡ object_at self.old h }
+        ensures stage { self.new ≡ record self.old { objects = remove_entry (is_at (nat_cmp h)) self.old.objects } }
+    {
+        self.objects.remove(h)
     }
 
     /// Ends the flight with this ticket: its frame shows something else.

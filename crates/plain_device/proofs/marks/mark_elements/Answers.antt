@@ -2,8 +2,8 @@ use Rattle.std.proofs.Common.{◌≡◌, ◌∙◌, false, ap, subst, sym}
 use Rattle.dev_types.specs.DataTypes.{is_object_type}
 use Rattle.seq_model.specs.Life.{has}
 use Rattle.seq_model.specs.State.{ArrayState}
-use Rattle.plain_device.proofs.Marks.{adds_none, adds_same, elements_of, values_name_none, view_names}
-use Rattle.plain_device.proofs.sweeps.mark_elements.Goals as goal
+use Rattle.plain_device.proofs.Adding.{adds_none, adds_same, elements_of, values_name_none, view_names}
+use Rattle.plain_device.proofs.marks.mark_elements.Goals as goal
 
 pub returns-then-is_object : goal.returns-then-is_object
 returns-then-is_object c =

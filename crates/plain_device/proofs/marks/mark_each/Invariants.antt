@@ -3,7 +3,7 @@ use Rattle.byte_view.specs.Elements.{element}
 use Rattle.kind_tables.specs.SceneObjects.{object_in}
 use Rattle.seq_model.specs.Life.{has}
 use Rattle.plain_device.specs.Sweeping.{Adds}
-use Rattle.plain_device.proofs.sweeps.mark_each.Given as goal
+use Rattle.plain_device.proofs.marks.mark_each.Given as goal
 
 -- what the first i elements name is marked
 abbrev pub invariant-loop-i : goal.invariant-loop-i

@@ -2,8 +2,8 @@ use Rattle.std.proofs.Common.{◌≡◌, subst}
 use Rattle.kind_tables.specs.SceneObjects.{objects_of}
 use Rattle.seq_model.specs.Life.{has}
 use Rattle.plain_device.specs.Sweeping.{Adds}
-use Rattle.plain_device.proofs.Marks.{first_value, no_value}
-use Rattle.plain_device.proofs.sweeps.mark_values.Goals as goal
+use Rattle.plain_device.proofs.Adding.{first_value, no_value}
+use Rattle.plain_device.proofs.marks.mark_values.Goals as goal
 
 pub loop-value-init : goal.loop-value-init
 loop-value-init c = λ last all.

@@ -2,7 +2,7 @@ use Rattle.std.proofs.Common.{Bool, List}
 use Rattle.kind_tables.specs.SceneObjects.{objects_of}
 use Rattle.seq_model.specs.Life.{has}
 use Rattle.plain_device.specs.Sweeping.{Adds}
-use Rattle.plain_device.proofs.sweeps.mark_values.Given as goal
+use Rattle.plain_device.proofs.marks.mark_values.Given as goal
 
 -- with what the other values name, all is marked
 abbrev pub invariant-loop-value : goal.invariant-loop-value

@@ -4,8 +4,8 @@ use Rattle.byte_view.specs.Elements.{element}
 use Rattle.kind_tables.specs.SceneObjects.{object_in}
 use Rattle.seq_model.specs.Life.{has}
 use Rattle.plain_device.specs.Sweeping.{Adds}
-use Rattle.plain_device.proofs.Marks.{adds_none, one_more_named}
-use Rattle.plain_device.proofs.sweeps.mark_each.Goals as goal
+use Rattle.plain_device.proofs.Adding.{adds_none, one_more_named}
+use Rattle.plain_device.proofs.marks.mark_each.Goals as goal
 
 pub loop-i-init : goal.loop-i-init
 loop-i-init c = adds_none _ c.args.marks.now (λ k. refl)
