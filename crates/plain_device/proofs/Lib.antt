@@ -1,3 +1,8 @@
+pub mod Adding
+pub mod Ended
 pub mod Entries
 pub mod NamedFacts
+pub mod Removals
 pub mod RenderFacts
+pub mod Rounds
+pub mod Turns

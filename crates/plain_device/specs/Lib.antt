@@ -2,3 +2,4 @@ pub mod Counts
 pub mod Kept
 pub mod Named
 pub mod Shown
+pub mod Sweeping

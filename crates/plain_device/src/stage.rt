@@ -1,9 +1,12 @@
 //! The objects of a device by their handles.
 ghost use Rattle.std.specs.Prelude.{◌==◌, not, ◌≡◌, ◌≤◌, ◌∷◌, ◌++◌, [], OnOk, OnErr, Some, length, map, option_copied};
+ghost use Rattle.std.specs.BTreeMap.{is_at};
 ghost use Rattle.std.specs.List.{filter};
+ghost use Rattle.std.specs.Map.{remove_entry};
 ghost use Rattle.std.specs.Option.{option_and_then, option_map, option_map_or};
+ghost use Rattle.std.specs.Ordering.{nat_cmp};
 ghost use Rattle.seq_model.specs.State.{scene_object, scene_objects, Empty, changed_at, empty, object_at, with_object};
-ghost use Rattle.seq_model.specs.Steps.{change_array, commit, discard, end_flights, end_parameter_loan, holding, lend_parameter, lent, map_channel, set_phase, set_staged, unmap_channel};
+ghost use Rattle.seq_model.specs.Steps.{change_array, commit, discard, end_flight, end_flights, end_parameter_loan, holding, lend_parameter, lent, map_channel, set_phase, set_staged, unmap_channel};
 ghost use Rattle.kind_tables.specs.SceneObjects.{object_at as scene_at, with_value, without_value};
 ghost use Rattle.handle_table.specs.HandleMaps.{RiseWithin};
 ghost use Rattle.plain_device.specs.Shown.{HasLength, phase_of};
@@ -212,6 +215,33 @@ impl Stage {
         ensures { self.new ≡ record self.old { stopped = filter (λ u. not (u == ticket)) self.old.stopped } }
     {
         drop_ticket(&mut self.stopped, ticket);
+    }
+
+    /// Takes an object away; `None` exactly where there is no such object.
+    pub fn remove(&mut self, h: Handle) -> Option<Object>
+        ensures value { result ≡ object_at self.old h }
+        ensures stage { self.new ≡ record self.old { objects = remove_entry (is_at (nat_cmp h)) self.old.objects } }
+    {
+        self.objects.remove(h)
+    }
+
+    /// Ends the flight with this ticket: its frame shows something else.
+    pub fn end_flights(&mut self, ticket: u64, shows: Shows)
+        ensures { self.new ≡ end_flights ticket (phase_of shows) self.old }
+    {
+        let next = self.next();
+        for h in 1..next.0 {
+            self.end_flight(Handle(h), ticket, shows);
+        }
+    }
+
+    /// Ends the flight with this ticket, if its frame has this handle.
+    fn end_flight(&mut self, h: Handle, ticket: u64, shows: Shows)
+        ensures { self.new ≡ changed_at h (end_flight ticket (phase_of shows)) self.old }
+    {
+        if let Some(object) = self.objects.get_mut(h) {
+            object.end_flight(ticket, shows);
+        }
     }
 }
 
