@@ -1,1 +1,4 @@
 pub mod Entries
+pub mod LastUses
+pub mod Places
+pub mod WorldFacts

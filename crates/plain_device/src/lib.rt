@@ -4,3 +4,6 @@
 pub mod objects;
 pub mod reaches;
 pub mod stage;
+pub mod worlds;
+#[cfg(test)]
+mod worlds_tests;
