@@ -1,8 +1,11 @@
 pub mod Adding
 pub mod Ended
 pub mod Entries
+pub mod LastUses
 pub mod NamedFacts
+pub mod Places
 pub mod Removals
 pub mod RenderFacts
 pub mod Rounds
 pub mod Turns
+pub mod WorldFacts

@@ -3,3 +3,4 @@ pub mod Kept
 pub mod Named
 pub mod Shown
 pub mod Sweeping
+pub mod Worlds

@@ -15,3 +15,6 @@ pub mod renders;
 pub mod scenes;
 pub mod stage;
 pub mod sweeps;
+pub mod worlds;
+#[cfg(test)]
+mod worlds_tests;
