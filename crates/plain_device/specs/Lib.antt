@@ -2,5 +2,6 @@ pub mod Counts
 pub mod Kept
 pub mod Named
 pub mod Shown
+pub mod Suits
 pub mod Sweeping
 pub mod Worlds
