@@ -6,3 +6,5 @@ pub mod objects;
 pub mod reaches;
 pub mod stage;
 pub mod sweeps;
+#[cfg(test)]
+mod tests_sweeps;
