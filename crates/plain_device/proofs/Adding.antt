@@ -1,6 +1,7 @@
 -- Marks that are added one after the other.
-use Rattle.std.proofs.Common.{ℕ, ◌+◌, ◌==◌, ◌<◌, ◌≡◌, ◌∙◌, Bool, true, false, List, [], ◌∷◌, ◌++◌, Option, None, Some, length, map, get_or, refl, sym, ap, arith}
+use Rattle.std.proofs.Common.{ℕ, ◌+◌, ◌==◌, ◌<◌, ◌≡◌, ◌∙◌, Bool, false, List, [], ◌∷◌, ◌++◌, Option, None, Some, length, map, get_or, refl, sym, ap, arith}
 use Rattle.std.specs.Prelude.{◌||◌}
+use Rattle.std.proofs.Math.Bool.{or-false, or_assoc}
 use Rattle.std.specs.List.{cons_option, filter_map, range_with_len}
 use Rattle.std.specs.Option.{option_map, option_to_list}
 use Rattle.std.proofs.lemmas.List.Folds.{list_any-append}
@@ -14,17 +15,9 @@ use Rattle.scene_read.proofs.StartFacts.{no_object}
 use Rattle.seq_model.specs.Life.{has}
 use Rattle.plain_device.specs.Sweeping.{Adds}
 
-or_none : (t : Bool) → (t || false) ≡ t
-or_none true = refl
-or_none false = refl
-
-or_assoc : (s t u : Bool) → ((s || t) || u) ≡ (s || (t || u))
-or_assoc true t u = refl
-or_assoc false t u = refl
-
 -- a test that nothing passes adds nothing
 pub adds_none : (p : ℕ → Bool) (marks : List Bool) → ((k : ℕ) → p k ≡ false) → Adds p marks marks
-adds_none p marks none = λ i l. sym (ap (λ t. get_or marks i false || t) (none (i + 1)) ∙ or_none (get_or marks i false))
+adds_none p marks none = λ i l. sym (ap (λ t. get_or marks i false || t) (none (i + 1)) ∙ or-false (get_or marks i false))
 
 -- two tests after each other
 pub adds_both : (p q r : ℕ → Bool) (first next last : List Bool) → length next ≡ length first → ((k : ℕ) → r k ≡ (p k || q k)) → Adds p first next → Adds q next last → Adds r first last
@@ -39,7 +32,7 @@ adds_same p q first last is one = λ i l. one i l ∙ sym (ap (λ t. get_or firs
 -- a number is in a list with one more, or it is not
 pub has_first : (k : ℕ) (x : Option ℕ) (xs : List ℕ) → has k (cons_option x xs) ≡ (has k (option_to_list x) || has k xs)
 has_first k None xs = refl
-has_first k (Some h) xs = ap (λ t. t || has k xs) (sym (or_none (h == k)))
+has_first k (Some h) xs = ap (λ t. t || has k xs) (sym (or-false (h == k)))
 
 pub has_both : (k : ℕ) (xs ys : List ℕ) → has k (xs ++ ys) ≡ (has k xs || has k ys)
 has_both k xs ys = list_any-append (λ j. j == k) xs ys

@@ -1,5 +1,5 @@
 -- The objects in turn, by their handles: those below a handle are changed, the others not yet.
-use Rattle.std.proofs.Common.{ℕ, ◌+◌, ◌≡◌, ◌≤◌, ◌∙◌, Bool, true, false, List, [], ◌∷◌, Option, None, Some, map, refl, sym, ap, ltb, cond, arith}
+use Rattle.std.proofs.Common.{ℕ, length, ◌+◌, ◌≡◌, ◌≤◌, ◌∙◌, Bool, true, false, List, [], ◌∷◌, Option, None, Some, map, refl, sym, ap, ltb, cond, arith}
 use Rattle.std.specs.BTreeMap.{is_at}
 use Rattle.std.specs.Map.{keys_of, set_value}
 use Rattle.std.specs.Option.{option_map, unwrap_or}
@@ -13,6 +13,11 @@ use Rattle.seq_model.specs.State.{State}
 pub rises : {X : Type 0} (low high : ℕ) (es : List (ℕ × X)) → RiseWithin low high es → RisesWithin low high (keys_of es)
 rises low high [] up = up
 rises low high (e ∷ es) up = (up.0, rises (e.0 + 1) high es up.1)
+
+-- there are no more objects than handles
+pub few_entries : {X : Type 0} (low high : ℕ) (es : List (ℕ × X)) → RiseWithin low high es → length es + low ≤ high
+few_entries low high [] up = omega (arith, up)
+few_entries low high (e ∷ es) up = omega (arith, up.0, few_entries (e.0 + 1) high es up.1)
 
 -- another key is below a handle, or below the next one as well
 same_test : (h k : ℕ) → is_at (nat_cmp h) k ≡ false → ltb k h ≡ ltb k (h + 1)

@@ -1,6 +1,7 @@
 -- What is taken away handle by handle, and what is told of it.
 use Rattle.std.proofs.Common.{ℕ, ◌+◌, ◌==◌, ◌≡◌, ◌≤◌, ◌∙◌, Bool, true, false, not, List, [], ◌∷◌, ◌++◌, Option, None, Some, cond, leb, length, refl, sym, ap, arith}
 use Rattle.std.specs.Prelude.{◌||◌}
+use Rattle.std.proofs.Math.Bool.{or-false, or-true}
 use Rattle.std.specs.BTreeMap.{is_at}
 use Rattle.std.specs.List.{filter, filter_map}
 use Rattle.std.specs.Map.{keys_of, remove_entry}
@@ -29,20 +30,12 @@ module _ (marks : List Bool) where
   abbrev pub kept : ℕ → List (ℕ × Object) → List (ℕ × Object)
   kept h es = filter (stays h) es
 
-  or_true : (t : Bool) → (t || true) ≡ true
-  or_true true = refl
-  or_true false = refl
-
-  or_false : (t : Bool) → (t || false) ≡ t
-  or_false true = refl
-  or_false false = refl
-
   pub kept_first : (low h high : ℕ) (es : List (ℕ × Object)) → h ≤ low → RisesWithin low high (keys_of es) → kept h es ≡ es
   kept_first low h high [] less up = refl
   kept_first low h high (e ∷ es) less up =
       let is_from : leb h e.0 ≡ true = grind (arith, nat_tests, up.0) in
       ap (λ t. cond (is_marked marks e.0 || t) (e ∷ kept h es) (kept h es)) is_from
-      ∙ ap (λ t. cond t (e ∷ kept h es) (kept h es)) (or_true (is_marked marks e.0))
+      ∙ ap (λ t. cond t (e ∷ kept h es) (kept h es)) (or-true (is_marked marks e.0))
       ∙ ap (λ rest. e ∷ rest) (kept_first (e.0 + 1) h high es (omega (arith, up.0)) up.1)
 
   pub kept_last : (low h high : ℕ) (es : List (ℕ × Object)) → high ≤ h → RisesWithin low high (keys_of es) → kept h es ≡ marked marks es
@@ -51,7 +44,7 @@ module _ (marks : List Bool) where
       let more : e.0 + 1 ≤ high = rises_up (e.0 + 1) high (keys_of es) up.1 in
       let is_below : leb h e.0 ≡ false = grind (arith, nat_tests) in
       ap (λ t. cond (is_marked marks e.0 || t) (e ∷ kept h es) (kept h es)) is_below
-      ∙ ap (λ t. cond t (e ∷ kept h es) (kept h es)) (or_false (is_marked marks e.0))
+      ∙ ap (λ t. cond t (e ∷ kept h es) (kept h es)) (or-false (is_marked marks e.0))
       ∙ ap (λ rest. cond (is_marked marks e.0) (e ∷ rest) rest) (kept_last (e.0 + 1) h high es over up.1)
 
   -- a marked handle changes nothing
@@ -79,8 +72,8 @@ module _ (marks : List Bool) where
           let mark : is_marked marks e.0 ≡ false = sym (ap (is_marked marks) same) ∙ is in
           let now : leb h e.0 ≡ true = grind (arith, nat_tests) in
           let not_next : leb (h + 1) e.0 ≡ false = grind (arith, nat_tests) in
-          let stay : stays h e ≡ true = ap (λ t. is_marked marks e.0 || t) now ∙ or_true (is_marked marks e.0) in
-          let go : stays (h + 1) e ≡ false = ap (λ t. is_marked marks e.0 || t) not_next ∙ or_false (is_marked marks e.0) ∙ mark in
+          let stay : stays h e ≡ true = ap (λ t. is_marked marks e.0 || t) now ∙ or-true (is_marked marks e.0) in
+          let go : stays (h + 1) e ≡ false = ap (λ t. is_marked marks e.0 || t) not_next ∙ or-false (is_marked marks e.0) ∙ mark in
           let all : kept h es ≡ es = kept_first (e.0 + 1) h high es (omega arith) up.1 in
           let next : kept (h + 1) es ≡ es = kept_first (e.0 + 1) (h + 1) high es (omega arith) up.1 in
           ap (λ t. remove_entry (is_at (nat_cmp h)) (cond t (e ∷ kept h es) (kept h es))) stay
@@ -110,7 +103,7 @@ module _ (marks : List Bool) where
       by None = refl
       by (Some v) =
           let now : leb h h ≡ true = grind (arith, nat_tests) in
-          let stay : stays h (h, v) ≡ true = ap (λ t. is_marked marks h || t) now ∙ or_true (is_marked marks h) in
+          let stay : stays h (h, v) ≡ true = ap (λ t. is_marked marks h || t) now ∙ or-true (is_marked marks h) in
           ap (λ t. cond t (Some v) None) stay
 
   -- the ends, one after the other

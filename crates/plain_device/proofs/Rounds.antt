@@ -1,5 +1,5 @@
 -- What is marked first, and what one more round marks.
-use Rattle.std.proofs.Common.{ℕ, zero, suc, ◌+◌, ◌*◌, ◌≡◌, ◌<◌, ◌≤◌, ◌∙◌, Bool, true, false, List, [], ◌∷◌, All, None, Some, cond, length, get_or, refl, subst, sym, ap, arith}
+use Rattle.std.proofs.Common.{ℕ, zero, suc, ◌+◌, ◌-◌, ◌*◌, ◌≡◌, ◌<◌, ◌≤◌, ◌∙◌, Bool, true, false, List, [], ◌∷◌, All, None, Some, cond, length, get_or, refl, subst, sym, ap, arith}
 use Rattle.std.specs.Prelude.{◌||◌, nat_lt}
 use Rattle.std.specs.List.{filter}
 use Rattle.std.specs.Option.{option_map_or}
@@ -8,7 +8,7 @@ use Rattle.std.proofs.lemmas.Map.Entries.{option_filter}
 use Rattle.handle_table.specs.HandleMaps.{RiseWithin}
 use Rattle.seq_model.proofs.Growths.{grown_is, grown_rises, keeps, still_in}
 use Rattle.seq_model.proofs.Keys.{all_from_at, at, at_filter, at_within, one_that_passes, some_passes}
-use Rattle.seq_model.specs.Life.{grown, has, is_named_by, is_root, live, loan_count, names_of}
+use Rattle.seq_model.specs.Life.{grown, has, is_named_by, is_root, live, loan_count, names_of, roots_and_named}
 use Rattle.seq_model.specs.State.{Object, State, object_at}
 use Rattle.plain_device.proofs.Ended.{rises}
 use Rattle.plain_device.specs.Sweeping.{Adds, is_marked, marked}
@@ -33,10 +33,6 @@ marked_by p next es marks up long each =
         each i (suc i) o (omega arith) (omega (arith, within.1, long)) found
 
 -- the roots
-or_right_to_left : (s t u : Bool) → ((s || t) || u) ≡ (s || (t || u))
-or_right_to_left true t u = refl
-or_right_to_left false t u = refl
-
 pub roots_marked : (public : ℕ → ℕ) (reached : ℕ → Bool) (s : State) (first marks : List Bool) → RiseWithin 1 s.next s.objects → length first + 1 ≡ s.next → length marks ≡ length first →
     ((i : ℕ) → i < length first → get_or first i false ≡ (nat_lt 0 (public (i + 1)) || option_map_or (λ o. nat_lt 0 (loan_count o)) (object_at s (i + 1)) false)) →
     Adds reached first marks → marked marks s.objects ≡ filter (is_root public reached) s.objects
@@ -112,3 +108,18 @@ module _ (root : ℕ × Object → Bool) (next : ℕ) (es : List (ℕ × Object)
   pub ten_rounds : (n : ℕ) (marks : List Bool) → n ≡ 5 → marked marks es ≡ grown root es (2 * n) → marked marks es ≡ live root es
   unfolding live
   ten_rounds n marks is are = are ∙ ap (λ k. grown root es (2 * k)) is
+
+  -- once a round adds nothing, no later one does
+  settled : (n m : ℕ) → grown root es n ≡ grown root es (suc n) → grown root es (m + n) ≡ grown root es n
+  unfolding grown
+  settled n zero same = let none : 0 + n ≡ n = omega arith in ap (grown root es) none
+  settled n (suc m) same =
+      let next : suc m + n ≡ suc (m + n) = omega arith in ap (grown root es) next ∙ ap (roots_and_named root es) (settled n m same) ∙ sym same
+
+  pub last_round : (n : ℕ) (marks more : List Bool) → n ≤ 5 → length marks + 1 ≡ next → length more ≡ length marks → marked marks es ≡ grown root es (2 * n) → Adds (is_named_by (marked marks es)) marks more →
+      marks ≡ more → marked marks es ≡ live root es
+  unfolding live
+  last_round n marks more few long same are adds settles =
+      let again : grown root es (2 * n) ≡ grown root es (suc (2 * n)) = sym are ∙ ap (λ ms. marked ms es) settles ∙ one_round (2 * n) marks more long same are adds in
+      let sum : 10 - 2 * n + 2 * n ≡ 10 = omega (arith, few) in
+      are ∙ sym (settled (2 * n) (10 - 2 * n) again) ∙ ap (grown root es) sum

@@ -19,3 +19,5 @@ pub mod sweeps;
 pub mod worlds;
 #[cfg(test)]
 mod worlds_tests;
+#[cfg(test)]
+mod tests_sweeps;

@@ -1,5 +1,5 @@
 //! Takes away what does not live any more (ANARI 1.0 Specification, object lifetime).
-ghost use Rattle.std.specs.Prelude.{ℕ, ◌≡◌, ◌+◌, ◌-◌, ◌*◌, ◌<◌, ◌≤◌, ◌++◌, ◌||◌, false, nat_lt, not, length, slice_index_or, if◌then◌else◌};
+ghost use Rattle.std.specs.Prelude.{ℕ, ◌≡◌, ◌+◌, ◌-◌, ◌*◌, ◌<◌, ◌≤◌, ◌++◌, ◌||◌, false, nat_lt, not, IsTrue, length, slice_index_or, if◌then◌else◌};
 ghost use Rattle.std.specs.BTreeMap.{is_at};
 ghost use Rattle.std.specs.List.{filter, filter_map};
 ghost use Rattle.std.specs.Map.{remove_entry};
@@ -67,7 +67,14 @@ fn mark_roots(stage: &Stage, held: &[u64], reached: &[Reach], marks: &mut [bool]
     mark_flights(stage, reached, marks);
 }
 
-/// Marks what lives. The other marks are used for the rounds.
+/// Whether the same handles are marked.
+fn are_same(marks: &[bool], others: &[bool]) -> bool
+    ensures { IsTrue result → marks.now ≡ others.now }
+{
+    marks == others
+}
+
+/// Marks what lives, round by round, until one adds nothing, or at most ten. The other marks are used for the rounds.
 fn mark_live(
     stage: &Stage,
     held: &[u64],
@@ -83,6 +90,9 @@ fn mark_live(
     mark_roots(stage, held, reached, marks);
     for _round in 0..5_u32 {
         spread(stage, marks, others);
+        if are_same(marks, others) {
+            return;
+        }
         spread(stage, others, marks);
     }
 }

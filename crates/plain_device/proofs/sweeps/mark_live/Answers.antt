@@ -1,7 +1,7 @@
-use Rattle.std.proofs.Common.{◌+◌, ◌≡◌, length, arith}
+use Rattle.std.proofs.Common.{◌+◌, ◌≡◌, ◌≤◌, length, arith}
 use Rattle.seq_model.specs.Life.{grown, is_root}
 use Rattle.seq_model.specs.Steps.{is_reached}
-use Rattle.plain_device.proofs.Rounds.{ten_rounds, two_rounds}
+use Rattle.plain_device.proofs.Rounds.{last_round, ten_rounds, two_rounds}
 use Rattle.plain_device.specs.Counts.{count_at}
 use Rattle.plain_device.proofs.sweeps.mark_live.Goals as goal
 
@@ -22,3 +22,11 @@ returns c =
     let end : c.loop-round._round ≡ 5 = omega arith in
     ten_rounds (is_root (count_at c.args.held.now) (is_reached c.args.reached.now c.args.stage.now)) c.args.stage.now.next c.args.stage.now.objects c.requires.rising c.loop-round._round
     c.loop-round.marks end c.loop-round.invariant
+
+pub returns-then-are_same : goal.returns-then-are_same
+returns-then-are_same c =
+    let long : length c.loop-round.marks + 1 ≡ c.args.stage.now.next = omega (arith, c.requires.marks, c.mark_roots.auto.marks, c.loop-round.auto.marks) in
+    let same : length c.spread.new.marks ≡ length c.loop-round.marks = omega (arith, c.requires.others, c.mark_roots.auto.marks, c.loop-round.auto.marks, c.loop-round.auto.others, c.spread.auto.marks) in
+    let few : c.loop-round._round ≤ 5 = omega arith in
+    last_round (is_root (count_at c.args.held.now) (is_reached c.args.reached.now c.args.stage.now)) c.args.stage.now.next c.args.stage.now.objects c.requires.rising c.loop-round._round
+    c.loop-round.marks c.spread.new.marks few long same c.loop-round.invariant c.spread.ensures (c.are_same.ensures c.if-are_same.true)
