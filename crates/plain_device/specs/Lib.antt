@@ -1,3 +1,4 @@
 pub mod Counts
+pub mod SceneReads
 pub mod Shown
 pub mod Worlds
