@@ -1,8 +1,10 @@
 pub mod Entries
+pub mod GrantedScenes
 pub mod LastUses
 pub mod Places
 pub mod SceneLimits
 pub mod ShapeLimits
 pub mod Typed
+pub mod Values
 pub mod Walked
 pub mod WorldFacts

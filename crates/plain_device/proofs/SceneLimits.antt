@@ -6,7 +6,7 @@ use Rattle.std.specs.Option.{option_and_then, option_map, option_map_or, option_
 use Rattle.std.proofs.lemmas.Bool.{and_parts, leb-true, ltb-false}
 use Rattle.std.proofs.lemmas.List.Elements.{All-nil, All-cons, All-head, All-tail, All-map}
 use Rattle.dev_types.specs.declared.data_types.DataType.TheVariants as ty
-use Rattle.dev_types.specs.declared.refusals.Refused.TheVariants.{OutOfRange, TooMany}
+use Rattle.dev_types.specs.declared.refusals.Refused.TheVariants.{Incomplete, OutOfRange, TooMany}
 use Rattle.dev_types.specs.declared.values.Value.{Value}
 use Rattle.fx_math.specs.Mat34.{linear, placed}
 use Rattle.fx_math.specs.Vec3.{reach}
@@ -22,7 +22,7 @@ use Rattle.kind_tables.specs.SceneObjects.{Block, SceneObject, SceneObjects, arr
 use Rattle.kind_tables.specs.Scenes.{camera_by, camera_of, light_at, light_by, lighting_by, lights_of, nothing_of, primitive, primitives_at, primitives_by, primitives_of, scene, scene_by, side_of, surface_primitives, surface_shapes}
 use Rattle.kind_tables.specs.Shapes.{common_radius, corners_by, corners_of, next_three, own_radii, positions_of, shapes_by, shapes_of}
 use Rattle.kind_tables.specs.WalkRanks.{AreRanked}
-use Rattle.kind_tables.specs.WalkRefusals.{fault_of, first_answer, first_incomplete, first_limit, first_out_of_range, surface_count, too_many}
+use Rattle.kind_tables.specs.WalkRefusals.{missing_parameter, fault_of, first_answer, first_incomplete, first_limit, first_out_of_range, surface_count, too_many}
 use Rattle.kind_tables.specs.Walks.{Visit, at_origin, at_parameters_of, visit, walk}
 use Rattle.kind_tables.specs.declared.kinds.Kind.{Kind}
 use Rattle.kind_tables.specs.declared.kinds.Kind.TheVariants.{CameraOrthographic, CameraPerspective, FrameDefault, GeometrySphere, GeometryTriangle, LightDirectional, LightPoint, MaterialMatte, RendererDefault, SurfaceDefault, Array}
@@ -34,7 +34,7 @@ use Rattle.plain_device.proofs.Walked.{HoldsBelow, all_hold_below, chosen, each,
 use Rattle.plain_device.specs.SceneReads.{IsReadCamera, IsReadLight, IsReadScene}
 
 -- the tests of a visit that breaks nothing
-abbrev Passes : SceneObjects → Visit → Type 0
+abbrev pub Passes : SceneObjects → Visit → Type 0
 Passes objects v = AllPass (tests_of v.object.kind v.spot.transform v.object) × AllPass (geometry_tests v.object.kind objects v.object v.spot.transform)
 
 passes : (objects : SceneObjects) (v : Visit) → broken_parameter objects v ≡ None → Passes objects v
@@ -47,15 +47,13 @@ both_none : {X : Type 0} (x y : Option X) → option_or x y ≡ None → (x ≡ 
 both_none None y none = (refl, none)
 both_none (Some x) y none = absurd cc
 
-unbroken : (objects : SceneObjects) (visits : List Visit) → first_answer (λ v. option_map (OutOfRange v.handle) (broken_parameter objects v)) visits ≡ None →
-    All (λ v. broken_parameter objects v ≡ None) visits
-unbroken objects [] none = All-nil (λ v. broken_parameter objects v ≡ None)
-unbroken objects (v ∷ visits) none =
-    let both : (option_map (OutOfRange v.handle) (broken_parameter objects v) ≡ None) × (first_answer (λ v. option_map (OutOfRange v.handle) (broken_parameter objects v)) visits ≡ None) =
-    both_none (option_map (OutOfRange v.handle) (broken_parameter objects v)) (first_answer (λ v. option_map (OutOfRange v.handle) (broken_parameter objects v)) visits) none in
-    All-cons (λ v. broken_parameter objects v ≡ None) v visits (of_map (broken_parameter objects v) both.0) (unbroken objects visits both.1)
+none_of_each : {X Y : Type 0} (f : Visit → X → Y) (g : Visit → Option X) (visits : List Visit) → first_answer (λ v. option_map (f v) (g v)) visits ≡ None → All (λ v. g v ≡ None) visits
+none_of_each f g [] none = All-nil (λ v. g v ≡ None)
+none_of_each {X} f g (v ∷ visits) none =
+    let both : (option_map (f v) (g v) ≡ None) × (first_answer (λ v. option_map (f v) (g v)) visits ≡ None) = both_none (option_map (f v) (g v)) (first_answer (λ v. option_map (f v) (g v)) visits) none in
+    All-cons (λ v. g v ≡ None) v visits (of_map (g v) both.0) (none_of_each f g visits both.1)
   where
-    of_map : (x : Option (List ℕ)) → option_map (OutOfRange v.handle) x ≡ None → x ≡ None
+    of_map : (x : Option X) → option_map (f v) x ≡ None → x ≡ None
     of_map None none = refl
     of_map (Some x) none = absurd cc
 
@@ -67,21 +65,22 @@ few_enough limit count none = by (nat_lt limit count) refl none
     by false is none = ltb-false limit count is
 
 -- what a walk without a fault keeps to
-record IsFaultless (objects : SceneObjects) (visits : List Visit) : Type 0 where
-  lights : length (lights_of visits) ≤ 256
-  passing : All (Passes objects) visits
+pub record IsFaultless (objects : SceneObjects) (visits : List Visit) : Type 0 where
+  pub complete : All (λ v. missing_parameter v.object ≡ None) visits
+  pub lights : length (lights_of visits) ≤ 256
+  pub passing : All (Passes objects) visits
 
-faultless : (objects : SceneObjects) (visits : List Visit) → fault_of objects visits ≡ None → IsFaultless objects visits
-unfolding fault_of first_limit first_out_of_range
+pub faultless : (objects : SceneObjects) (visits : List Visit) → fault_of objects visits ≡ None → IsFaultless objects visits
+unfolding fault_of first_incomplete first_limit first_out_of_range
 faultless objects visits none =
     let first = both_none (first_incomplete visits) (option_or (first_limit objects visits) (first_out_of_range objects visits)) none in
     let second = both_none (first_limit objects visits) (first_out_of_range objects visits) first.1 in
-    let third =
-    both_none (too_many 65536 (surface_count visits)) (option_or (too_many 256 (length (lights_of visits))) (too_many 1048576 (length (primitives_of objects visits)))) second.0 in
+    let third = both_none (too_many 65536 (surface_count visits)) (option_or (too_many 256 (length (lights_of visits))) (too_many 1048576 (length (primitives_of objects visits)))) second.0 in
     let fourth = both_none (too_many 256 (length (lights_of visits))) (too_many 1048576 (length (primitives_of objects visits))) third.1 in
     record {
+      complete = none_of_each (λ v. Incomplete v.handle) (λ v. missing_parameter v.object) visits first.0;
       lights = few_enough 256 (length (lights_of visits)) fourth.0;
-      passing = each (λ v. broken_parameter objects v ≡ None) (Passes objects) visits (passes objects) (unbroken objects visits second.1);
+      passing = each (λ v. broken_parameter objects v ≡ None) (Passes objects) visits (passes objects) (none_of_each (λ v. OutOfRange v.handle) (broken_parameter objects) visits second.1);
     }
 
 -- triangles have three vertex numbers, told or not
@@ -334,28 +333,28 @@ primitives_within objects f typed below =
     (visits_are_objects objects f))
 
 scene_by_within : (objects : SceneObjects) (f : ℕ) (frame : SceneObject) → IsTyped objects → AreRanked objects → object_at objects f ≡ Some frame → frame.kind ≡ FrameDefault →
-    fault_of objects (walk objects f) ≡ None → IsReadScene (sizes_in (value_at frame (codes "size"))) (scene_by objects frame (walk objects f)) →
+    IsFaultless objects (walk objects f) → length (sizes_in (value_at frame (codes "size"))) ≡ 2 → IsReadCamera (camera_of objects frame) → All IsReadLight (lights_of (walk objects f)) →
     IsSceneWithin (scene_by objects frame (walk objects f))
 unfolding walk scene_by
-scene_by_within objects f frame typed ranked there kind none read =
-    let faults : IsFaultless objects (walk objects f) = faultless objects (walk objects f) none in
-    let below : All (HoldsBelow (Passes objects) objects) (walk objects f) = all_hold_below (Passes objects) objects f ranked faults.passing in
+scene_by_within objects f frame typed ranked there kind faultless two camera lights =
+    let below : All (HoldsBelow (Passes objects) objects) (walk objects f) = all_hold_below (Passes objects) objects f ranked faultless.passing in
     let here : HoldsBelow (Passes objects) objects (visit (at_origin, f) frame) = first_visit (HoldsBelow (Passes objects) objects) objects 9 (at_origin, f) frame there below in
-    let own : Passes objects (visit (at_origin, f) frame) = first_visit (Passes objects) objects 9 (at_origin, f) frame there faults.passing in
+    let own : Passes objects (visit (at_origin, f) frame) = first_visit (Passes objects) objects 9 (at_origin, f) frame there faultless.passing in
     let tests : AllPass (tests_of FrameDefault at_origin.transform frame) = subst (λ k. AllPass (tests_of k at_origin.transform frame)) kind own.0 in
-    let sides : IsSide (side_of frame 0) × IsSide (side_of frame 1) = sides_within (sizes_in (value_at frame (codes "size"))) read.sides tests.0 in
+    let sides : IsSide (side_of frame 0) × IsSide (side_of frame 1) = sides_within (sizes_in (value_at frame (codes "size"))) two tests.0 in
     record {
       primitives = primitives_within objects f typed below;
-      camera = camera_of_frame objects f frame typed there kind here read.camera;
-      lighting = lighting_of_frame objects f frame typed there kind here (lights_of (walk objects f)) faults.lights (lights_within objects (walk objects f) faults.passing read.lights);
+      camera = camera_of_frame objects f frame typed there kind here camera;
+      lighting = lighting_of_frame objects f frame typed there kind here (lights_of (walk objects f)) faultless.lights (lights_within objects (walk objects f) faultless.passing lights);
       width = sides.0;
       height = sides.1;
     }
 
--- the scene of a frame whose walk has no fault is within the limits, where its numbers were read as values
+-- the scene of a frame whose walk has no fault is within the limits, where its size has two sides, and its numbers were read as values
 pub scene_within : (objects : SceneObjects) (f : ℕ) (frame : SceneObject) → IsTyped objects → AreRanked objects → object_at objects f ≡ Some frame → frame.kind ≡ FrameDefault →
-    fault_of objects (walk objects f) ≡ None → IsReadScene (sizes_in (value_at frame (codes "size"))) (scene objects f) → IsSceneWithin (scene objects f)
-unfolding scene
-scene_within objects f frame typed ranked there kind none read =
+    fault_of objects (walk objects f) ≡ None → length (sizes_in (value_at frame (codes "size"))) ≡ 2 → IsReadScene (value_at frame (codes "size")) (scene objects f) → IsSceneWithin (scene objects f)
+unfolding scene scene_by
+scene_within objects f frame typed ranked there kind none two read =
     let is : scene objects f ≡ scene_by objects frame (walk objects f) = ap (λ x. scene_by objects (unwrap_or x (nothing_of FrameDefault)) (walk objects f)) there in
-    subst IsSceneWithin (sym is) (scene_by_within objects f frame typed ranked there kind none (subst (IsReadScene (sizes_in (value_at frame (codes "size")))) is read))
+    let same : IsReadScene (value_at frame (codes "size")) (scene_by objects frame (walk objects f)) = subst (IsReadScene (value_at frame (codes "size"))) is read in
+    subst IsSceneWithin (sym is) (scene_by_within objects f frame typed ranked there kind (faultless objects (walk objects f) none) two same.camera same.lights)

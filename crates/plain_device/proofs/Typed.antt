@@ -22,7 +22,7 @@ pub record IsTyped (objects : SceneObjects) : Type 0 where
   pub array : (h : ℕ) (o : SceneObject) (b : Block) → object_at objects h ≡ Some o → o.block ≡ Some b → o.kind ≡ Array b.elem
 
 -- the value under a name is one of the map's, under that name
-value_is : (P : List ℕ → Value → Type 0) (name : List ℕ) (values : List (List ℕ × Value)) (v : Value) → All (λ entry. P entry.0 entry.1) values → value_named name values ≡ Some v → P name v
+pub value_is : (P : List ℕ → Value → Type 0) (name : List ℕ) (values : List (List ℕ × Value)) (v : Value) → All (λ entry. P entry.0 entry.1) values → value_named name values ≡ Some v → P name v
 value_is P name [] v all found = absurd cc
 value_is P name (e ∷ values) v all found = by (is_at (slice_cmp nat_cmp name) e.0) refl (value_is P name values v (All-tail (λ (entry : List ℕ × Value). P entry.0 entry.1) e values all))
   where
@@ -42,7 +42,7 @@ state_has s h o found = by (state_object s h) refl (sym (at_map scene_object h s
     by None is same = absurd cc
     by (Some q) is same = (q, (is, (let one : scene_object q ≡ o = cc in one)))
 
-sound_at : (s : State) (h : ℕ) (q : Object) → AllSound s → state_object s h ≡ Some q → IsSound s q
+pub sound_at : (s : State) (h : ℕ) (q : Object) → AllSound s → state_object s h ≡ Some q → IsSound s q
 sound_at s h q all found = subst (λ x. MatchOption x (Unit {0}) (IsSound s)) found (all h)
 
 named_by : (s : State) (q : Object) (name : List ℕ) (p : SceneObject) (v : Option Value) → IsSound s q → value_named name q.committed ≡ v →

@@ -3,6 +3,7 @@
 
 pub mod objects;
 pub mod reaches;
+pub mod scene_laws;
 pub mod stage;
 pub mod worlds;
 #[cfg(test)]
