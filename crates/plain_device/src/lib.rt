@@ -14,6 +14,7 @@ pub mod record;
 pub mod refusals;
 pub mod renders;
 pub mod scenes;
+pub mod scene_laws;
 pub mod stage;
 pub mod sweeps;
 pub mod worlds;
