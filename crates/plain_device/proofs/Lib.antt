@@ -15,3 +15,4 @@ pub mod Typed
 pub mod Values
 pub mod Walked
 pub mod WorldFacts
+pub mod SuitFacts

@@ -13,12 +13,12 @@ pub mod reaches;
 pub mod record;
 pub mod refusals;
 pub mod renders;
-pub mod scenes;
 pub mod scene_laws;
+pub mod scenes;
 pub mod stage;
 pub mod sweeps;
+#[cfg(test)]
+mod tests_sweeps;
 pub mod worlds;
 #[cfg(test)]
 mod worlds_tests;
-#[cfg(test)]
-mod tests_sweeps;
