@@ -22,7 +22,7 @@ entry_at h objects = option_to_list (option_map (λ o. (h, o)) (lookup (is_at (n
 abbrev pub marked : List Bool → List (ℕ × Object) → List (ℕ × Object)
 marked marks objects = filter (λ entry. is_marked marks entry.0) objects
 
--- the marks of the handles that pass a test, each other one as it was
+-- each handle is marked that was marked, or that passes a test, and no other
 abbrev pub Adds : (ℕ → Bool) → List Bool → List Bool → Type 0
 Adds passes old new = (i : ℕ) → i < length old → slice_index_or new i false ≡ (slice_index_or old i false || passes (i + 1))
 

@@ -1,12 +1,11 @@
 //! Marks of objects by their handles, where handle 1 has the first mark: what objects name, and what flights reached.
-ghost use Rattle.std.specs.Prelude.{◌≡◌, ◌==◌, ◌+◌, ◌≤◌, ◌∷◌, [], Some, length, option_copied};
+ghost use Rattle.std.specs.Prelude.{◌≡◌, ◌==◌, ◌∷◌, [], Some, length, option_copied};
 ghost use Rattle.std.specs.List.{filter_map, find, list_any, range_with_len};
-ghost use Rattle.std.specs.Option.{option_map, option_to_list};
+ghost use Rattle.std.specs.Option.{option_to_list};
 ghost use Rattle.byte_view.specs.Elements.{element};
-ghost use Rattle.handle_table.specs.HandleMaps.{RiseWithin};
 ghost use Rattle.kind_tables.specs.SceneObjects.{object_in, objects_of};
 ghost use Rattle.seq_model.specs.Life.{has, is_named_by, names_of, objects_of_elements};
-ghost use Rattle.seq_model.specs.State.{object_at, ticket_in};
+ghost use Rattle.seq_model.specs.State.{ticket_in};
 ghost use Rattle.seq_model.specs.Steps.{is_reached, is_reached_by};
 ghost use Rattle.plain_device.specs.Sweeping.{Adds, entry_at, is_marked, marked};
 

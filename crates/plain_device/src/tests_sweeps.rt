@@ -1,6 +1,5 @@
 // What the proofs cannot see: that the definition of life keeps what an application expects, on small worked stages.
-ghost use Rattle.std.specs.Prelude.{◌-◌, ◌≤◌, ◌^◌, length, vec_capacity, vec_len};
-ghost use Rattle.dev_types.specs.Blocks.{FitsBlock};
+ghost use Rattle.std.specs.Prelude.{◌-◌, vec_capacity, vec_len};
 
 use crate::objects::{Array, Object, ParameterLoan, Shows};
 use crate::reaches::Reach;
