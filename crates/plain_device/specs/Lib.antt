@@ -1,6 +1,8 @@
 pub mod Counts
+pub mod Endings
 pub mod Kept
 pub mod Named
+pub mod Open
 pub mod SceneReads
 pub mod Shown
 pub mod Suits
