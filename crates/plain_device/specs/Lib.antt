@@ -1,4 +1,3 @@
 pub mod Counts
-pub mod SceneReads
 pub mod Shown
 pub mod Worlds
