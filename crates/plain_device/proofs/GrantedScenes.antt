@@ -2,7 +2,7 @@
 use Rattle.std.proofs.Common.{ℕ, zero, suc, ◌≡◌, ◌∙◌, Bool, true, false, List, [], ◌∷◌, Option, Some, None, refl, sym, ap, subst, length}
 use Rattle.std.specs.Prelude.{codes, cond, slice_get, ◌++◌, ◌&&◌, IsSomeAnd, MatchOption}
 use Rattle.std.specs.List.{find}
-use Rattle.std.specs.Option.{is_none, option_and_then, option_map, option_or}
+use Rattle.std.specs.Option.{is_none, option_map, option_or, unwrap_or}
 use Rattle.dev_types.specs.DataTypes.{is_object_type}
 use Rattle.dev_types.specs.ValueBytes.{is_well_typed, type_of}
 use Rattle.dev_types.specs.declared.data_types.DataType.TheVariants as ty
@@ -11,7 +11,7 @@ use Rattle.dev_types.specs.declared.values.Value.TheVariants.{Int32, Uint32Vec2,
 use Rattle.kind_tables.specs.Kinds.{type_of_kind}
 use Rattle.kind_tables.specs.Rows.{required_row, row_of, rows_of}
 use Rattle.kind_tables.specs.SceneObjects.{SceneObject, default_of, object_at as scene_object_at, sizes_in, value_at, value_named}
-use Rattle.kind_tables.specs.Scenes.{scene}
+use Rattle.kind_tables.specs.Scenes.{nothing_of, scene}
 use Rattle.kind_tables.specs.WalkRefusals.{fault_of, missing_parameter}
 use Rattle.kind_tables.specs.Walks.{at_origin, walk}
 use Rattle.kind_tables.specs.declared.kinds.Kind.{Kind}
@@ -36,7 +36,7 @@ use Rattle.plain_device.proofs.SceneLimits.{faultless, scene_within}
 use Rattle.plain_device.proofs.Typed.{sound_at, sound_is_typed, value_is}
 use Rattle.plain_device.proofs.Values.{legal_is_well_typed}
 use Rattle.plain_device.proofs.Walked.{first_visit}
-use Rattle.plain_device.specs.SceneReads.{HasSides, IsReadScene, size_of_frame}
+use Rattle.scene_read.specs.SceneReads.{HasSides, IsReadScene, size_of_frame}
 use Rattle.plain_device.specs.Worlds.{render_of}
 
 -- a test that finds nothing fails at each place
@@ -138,7 +138,7 @@ granted_scene_within history f legal none read =
     let seen : scene_object_at (scene_objects (after history).state) f ≡ Some (scene_object granted.frame) =
     at_map scene_object f (after history).state.objects ∙ ap (option_map scene_object) granted.there in
     faultless_scene_within history f granted.frame legal granted.there granted.kind granted.faultless
-    (subst (λ x. IsReadScene (option_and_then (λ (o : SceneObject). value_at o (codes "size")) x) (scene (scene_objects (after history).state) f)) seen read)
+    (subst (λ x. IsReadScene (value_at (unwrap_or x (nothing_of FrameDefault)) (codes "size")) (scene (scene_objects (after history).state) f)) seen read)
 
 -- and of one that was done
 pub rendered_scene_within : (history : History) (actor f : ℕ) → Legal (history ++ render_of actor f ∷ []) →

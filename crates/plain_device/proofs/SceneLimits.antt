@@ -31,7 +31,7 @@ use Rattle.seq_model.specs.Soundness.{Takes}
 use Rattle.plain_device.proofs.ShapeLimits.{AllPass, amount_within, both_pass, color_within, none_broken, number_between, point_within, radii_pass, spheres_within, triangles_within}
 use Rattle.plain_device.proofs.Typed.{IsTyped}
 use Rattle.plain_device.proofs.Walked.{HoldsBelow, all_hold_below, chosen, each, first_visit, holds_of_named, named_handle, put_together}
-use Rattle.plain_device.specs.SceneReads.{IsReadCamera, IsReadLight, IsReadScene}
+use Rattle.scene_read.specs.SceneReads.{IsReadCamera, IsReadLight, IsReadScene}
 
 -- the tests of a visit that breaks nothing
 abbrev pub Passes : SceneObjects → Visit → Type 0

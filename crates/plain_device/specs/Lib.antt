@@ -3,7 +3,6 @@ pub mod Endings
 pub mod Kept
 pub mod Named
 pub mod Open
-pub mod SceneReads
 pub mod Shown
 pub mod Suits
 pub mod Sweeping

@@ -8,7 +8,7 @@ ghost use Rattle.seq_model.specs.Refusals.{refusal};
 ghost use Rattle.seq_model.specs.State.{scene_objects};
 ghost use Rattle.seq_model.specs.Steps.{after};
 ghost use Rattle.seq_model.specs.declared.calls.Call.TheVariants.{RenderFrame};
-ghost use Rattle.plain_device.specs.SceneReads.{IsReadScene, size_of_frame};
+ghost use Rattle.scene_read.specs.SceneReads.{IsReadScene, size_of_frame};
 ghost use Rattle.plain_device.specs.Worlds.{render_of};
 
 /// The scene of a frame whose render is granted is within the limits of pictures, and so is that of a frame that was

@@ -1,6 +1,5 @@
 -- What the numbers of a scene keep to because they were read as values: each component of a vector has 32 bits, and a size has two sides.
 use Rattle.std.specs.Prelude.{ℕ, ◌≡◌, ◌≤◌, ◌^◌, All, Option, Some, codes, length}
-use Rattle.std.specs.Option.{option_and_then}
 use Rattle.dev_types.specs.declared.values.Value.{Value}
 use Rattle.dev_types.specs.declared.values.Value.TheVariants.{Uint32Vec2}
 use Rattle.fx_math.specs.Vec3.{reach}
@@ -10,7 +9,8 @@ use Rattle.fx_math.specs.declared.scene.LightRow.{LightRow}
 use Rattle.fx_math.specs.declared.scene.LightRow.TheVariants.{Directional, Point}
 use Rattle.fx_math.specs.declared.scene.Scene.{Scene}
 use Rattle.fx_math.specs.declared.vectors.Vec3.{Vec3}
-use Rattle.kind_tables.specs.SceneObjects.{SceneObjects, object_at, value_at}
+use Rattle.kind_tables.specs.SceneObjects.{SceneObjects, value_at}
+use Rattle.scene_read.specs.Starts.{visited_object}
 
 -- the directions of a camera, which no range test bounds
 pub record AreReadDirections (direction up : Vec3) : Type 0 where
@@ -31,9 +31,9 @@ abbrev pub HasSides : Option Value → Type 0
 HasSides (Some (Uint32Vec2 sides)) = length sides ≡ 2
 HasSides _ = Unit {0}
 
--- the size of a frame, if it has one
+-- the size of the frame with a handle, if it has one
 abbrev pub size_of_frame : SceneObjects → ℕ → Option Value
-size_of_frame objects f = option_and_then (λ o. value_at o (codes "size")) (object_at objects f)
+size_of_frame objects f = value_at (visited_object objects f) (codes "size")
 
 -- a scene as it is read of a frame with this size
 pub record IsReadScene (size : Option Value) (scene : Scene) : Type 0 where
