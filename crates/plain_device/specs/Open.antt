@@ -1,5 +1,5 @@
 -- Histories of a device that is open and sees no tile finished before a flight is.
-use Rattle.std.specs.Prelude.{◌≡◌, ℕ, List, All, true}
+use Rattle.std.specs.Prelude.{◌≡◌, ℕ, All, true}
 use Rattle.seq_model.specs.Extensions.{let_follow, readings_of}
 use Rattle.seq_model.specs.Histories.{History}
 use Rattle.seq_model.specs.Legal.{Legal}
