@@ -16,3 +16,4 @@ pub mod Values
 pub mod Walked
 pub mod WorldFacts
 pub mod SuitFacts
+pub mod UseFacts

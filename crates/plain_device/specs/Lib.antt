@@ -1,3 +1,4 @@
+pub mod Booked
 pub mod Counts
 pub mod Endings
 pub mod Kept
@@ -6,4 +7,5 @@ pub mod Open
 pub mod Shown
 pub mod Suits
 pub mod Sweeping
+pub mod Uses
 pub mod Worlds

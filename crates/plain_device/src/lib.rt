@@ -1,6 +1,7 @@
 // The sequential device over plain lists.
 #![tactic(auto)]
 
+pub mod books;
 pub mod changes;
 pub mod creations;
 pub mod elements;
@@ -19,6 +20,7 @@ pub mod stage;
 pub mod sweeps;
 #[cfg(test)]
 mod tests_sweeps;
+pub mod uses;
 pub mod worlds;
 #[cfg(test)]
 mod worlds_tests;
