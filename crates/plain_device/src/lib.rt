@@ -2,6 +2,7 @@
 #![tactic(auto)]
 
 pub mod changes;
+pub mod counting;
 pub mod creations;
 pub mod elements;
 pub mod frames;
