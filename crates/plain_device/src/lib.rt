@@ -3,6 +3,7 @@
 
 pub mod books;
 pub mod changes;
+pub mod counting;
 pub mod creations;
 pub mod elements;
 pub mod frames;
