@@ -17,3 +17,4 @@ pub mod Walked
 pub mod WorldFacts
 pub mod SuitFacts
 pub mod UseFacts
+pub mod WholeFacts

@@ -9,4 +9,5 @@ pub mod Shown
 pub mod Suits
 pub mod Sweeping
 pub mod Uses
+pub mod Whole
 pub mod Worlds
