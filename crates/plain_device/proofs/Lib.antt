@@ -5,6 +5,7 @@ pub mod GrantedScenes
 pub mod LastUses
 pub mod NamedFacts
 pub mod Places
+pub mod PreparedFacts
 pub mod Removals
 pub mod RenderFacts
 pub mod Rounds

@@ -5,6 +5,7 @@ pub mod Endings
 pub mod Kept
 pub mod Named
 pub mod Open
+pub mod Prepared
 pub mod Shown
 pub mod Suits
 pub mod Sweeping

@@ -10,6 +10,7 @@ pub mod frames;
 pub mod loans;
 mod marks;
 pub mod objects;
+pub mod prepared;
 pub mod queries;
 pub mod reaches;
 pub mod record;
