@@ -3,10 +3,13 @@ pub mod Ended
 pub mod Entries
 pub mod GrantedScenes
 pub mod LastUses
+pub mod Legality
 pub mod NamedFacts
 pub mod Places
+pub mod PublicCounts
 pub mod Removals
 pub mod RenderFacts
+pub mod Replies
 pub mod Rounds
 pub mod SceneLimits
 pub mod ShapeLimits
