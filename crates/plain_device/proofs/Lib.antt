@@ -8,6 +8,7 @@ pub mod Places
 pub mod PreparedFacts
 pub mod Removals
 pub mod RenderFacts
+pub mod RendersKept
 pub mod Rounds
 pub mod SceneLimits
 pub mod ShapeLimits
