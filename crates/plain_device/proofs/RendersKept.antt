@@ -1,5 +1,5 @@
 -- The renders that are kept, as a history grows.
-use Rattle.std.proofs.Common.{ℕ, ◌+◌, ◌≡◌, ◌<◌, ◌≤◌, ◌∙◌, ◌⊎◌, inl, inr, false, List, [], ◌∷◌, ◌++◌, Option, Some, None, refl, sym, ap, subst, length, arith}
+use Rattle.std.proofs.Common.{ℕ, ◌+◌, ◌≡◌, ◌<◌, ◌≤◌, ◌∙◌, ◌⊎◌, inl, inr, Bool, false, List, [], ◌∷◌, ◌++◌, Option, Some, None, refl, sym, ap, subst, length, arith}
 use Rattle.std.specs.Prelude.{All, cond, ◌==◌}
 use Rattle.std.specs.Option.{IsSomeAnd, is_some, option_and_then, option_or, unwrap_or}
 use Rattle.std.proofs.lemmas.Bool.{cases_lt, eq-eqb, ne_eqb}
@@ -7,6 +7,7 @@ use Rattle.std.proofs.lemmas.List.{length_push}
 use Rattle.std.proofs.lemmas.List.Elements.{All-head, All-push, All-tail, All-weaker}
 use Rattle.std.proofs.lemmas.List.Folds.{find-append}
 use Rattle.dev_types.specs.declared.handles.Channel.{Channel}
+use Rattle.fx_math.specs.declared.scene.Scene.{Scene}
 use Rattle.kind_tables.specs.Scenes.{scene}
 use Rattle.kind_tables.specs.SceneObjects.{value_named}
 use Rattle.dev_types.specs.Words.{name_of_channel}
@@ -22,25 +23,31 @@ use Rattle.plain_device.specs.Prepared.{AreAsked}
 use Rattle.plain_device.specs.Worlds.{render_of}
 use Rattle.plain_device.specs.declared.renders.Render.{Render}
 
--- a render that was there shows the same after more entries
-scene_stays : (history further : History) (t : ℕ) → t ≤ length history → scene_at (history ++ further) t ≡ scene_at history t
+-- the scene of a frame, and whether it asks for a channel, in a state
+abbrev scene_of : State → Option ℕ → Scene
+scene_of s f = scene (scene_objects s) (unwrap_or f 0)
+
+abbrev asks : State → Channel → Option ℕ → Bool
+asks s c f = is_some (option_and_then (λ o. value_named (name_of_channel c) o.committed) (option_and_then (object_at s) f))
+
+scene_is : (history : History) (t : ℕ) (s : State) (f : Option ℕ) → state_before history t ≡ s → frame_at history t ≡ f → scene_at history t ≡ scene_of s f
 unfolding scene_at
-scene_stays history further t early =
-    ap (λ (s : State). scene (scene_objects s) (unwrap_or (frame_at (history ++ further) t) 0)) (state_early history further t (omega (arith, early))) ∙
-    ap (λ f. scene (scene_objects (state_before history t)) (unwrap_or f 0)) (frame_early history further t early)
+scene_is history t s f stands frame = ap (λ s. scene_of s (frame_at history t)) stands ∙ ap (scene_of s) frame
 
-channel_stays : (history further : History) (t : ℕ) (c : Channel) → t ≤ length history → has_channel (history ++ further) t c ≡ has_channel history t c
+channel_is : (history : History) (t : ℕ) (s : State) (f : Option ℕ) (c : Channel) → state_before history t ≡ s → frame_at history t ≡ f → has_channel history t c ≡ asks s c f
 unfolding has_channel
-channel_stays history further t c early =
-    ap (λ (s : State). is_some (option_and_then (λ o. value_named (name_of_channel c) o.committed) (option_and_then (object_at s) (frame_at (history ++ further) t)))) (state_early history further t (omega (arith, early))) ∙
-    ap (λ f. is_some (option_and_then (λ o. value_named (name_of_channel c) o.committed) (option_and_then (object_at (state_before history t)) f))) (frame_early history further t early)
+channel_is history t s f c stands frame = ap (λ s. asks s c (frame_at history t)) stands ∙ ap (asks s c) frame
 
+-- a render that was there shows the same after more entries
 shows_still : (history further : History) (t : ℕ) (r : Render) → t ≤ length history → Shows history t r → Shows (history ++ further) t r
-shows_still history further t r early shows = record {
-  scene = shows.scene ∙ sym (scene_stays history further t early);
-  channels = λ c. shows.channels c ∙ sym (channel_stays history further t c early);
-  within = shows.within;
-}
+shows_still history further t r early shows =
+    let stands : state_before (history ++ further) t ≡ state_before history t = state_early history further t (omega (arith, early)) in
+    let frame : frame_at (history ++ further) t ≡ frame_at history t = frame_early history further t early in
+    record {
+      scene = shows.scene ∙ scene_is history t _ _ refl refl ∙ sym (scene_is (history ++ further) t _ _ stands frame);
+      channels = λ c. shows.channels c ∙ channel_is history t _ _ c refl refl ∙ sym (channel_is (history ++ further) t _ _ c stands frame);
+      within = shows.within;
+    }
 
 shown_still : (history further : History) (t : ℕ) (found : Option Render) → t ≤ length history → IsSomeAnd found (Shows history t) → IsSomeAnd found (Shows (history ++ further) t)
 shown_still history further t (Some r) early shows = shows_still history further t r early shows
@@ -49,16 +56,13 @@ shown_still history further t None early shows = absurd shows
 -- the new render shows what stands
 shows_new : (past : Past) (actor f : ℕ) (r : Render) → past ≡ after past.seen → r.scene ≡ scene (scene_objects past.state) f → AreAsked past.state f r.channels →
     IsSceneWithin r.scene → Shows (past.seen ++ render_of actor f ∷ []) (length past.seen + 1) r
-unfolding scene_at has_channel
 shows_new past actor f r led is asked within =
     let stands : state_before (past.seen ++ render_of actor f ∷ []) (length past.seen + 1) ≡ past.state =
     state_early past.seen (render_of actor f ∷ []) (length past.seen + 1) (omega arith) ∙ state_next past.seen ∙ sym (ap (λ (p : Past). p.state) led) in
     let frame : frame_at (past.seen ++ render_of actor f ∷ []) (length past.seen + 1) ≡ Some f = frame_last past.seen (render_of actor f) in
     record {
-      scene = is ∙ sym (ap (λ (s : State). scene (scene_objects s) (unwrap_or (frame_at (past.seen ++ render_of actor f ∷ []) (length past.seen + 1)) 0)) stands ∙
-          ap (λ g. scene (scene_objects past.state) (unwrap_or g 0)) frame);
-      channels = λ c. asked c ∙ sym (ap (λ (s : State). is_some (option_and_then (λ o. value_named (name_of_channel c) o.committed) (option_and_then (object_at s) (frame_at (past.seen ++ render_of actor f ∷ []) (length past.seen + 1))))) stands ∙
-          ap (λ g. is_some (option_and_then (λ o. value_named (name_of_channel c) o.committed) (option_and_then (object_at past.state) g))) frame);
+      scene = is ∙ sym (scene_is (past.seen ++ render_of actor f ∷ []) (length past.seen + 1) past.state (Some f) stands frame);
+      channels = λ c. asked c ∙ sym (channel_is (past.seen ++ render_of actor f ∷ []) (length past.seen + 1) past.state (Some f) c stands frame);
       within = within;
     }
 
