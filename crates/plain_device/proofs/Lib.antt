@@ -1,5 +1,6 @@
 pub mod Adding
 pub mod Ended
+pub mod Entering
 pub mod Entries
 pub mod GrantedScenes
 pub mod LastUses
@@ -10,6 +11,7 @@ pub mod PreparedFacts
 pub mod PublicCounts
 pub mod Removals
 pub mod RenderFacts
+pub mod RendersKept
 pub mod Replies
 pub mod Rounds
 pub mod SceneLimits
@@ -22,4 +24,3 @@ pub mod Values
 pub mod Walked
 pub mod WholeFacts
 pub mod WorldFacts
-pub mod Entering

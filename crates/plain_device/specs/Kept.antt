@@ -1,5 +1,5 @@
 -- What a record knows beside its past.
-use Rattle.std.specs.Prelude.{◌≡◌, ℕ, ◌+◌, ◌==◌, false, List, All, Option, Some, length, slice_index_or}
+use Rattle.std.specs.Prelude.{◌≡◌, ℕ, ◌+◌, ◌==◌, ◌≤◌, false, List, All, Option, Some, length, slice_index_or}
 use Rattle.std.specs.List.{find}
 use Rattle.std.specs.Option.{IsSomeAnd, MatchOption}
 use Rattle.dev_types.specs.declared.handles.Channel.{Channel}
@@ -36,9 +36,10 @@ pub record Shows (history : History) (t : ℕ) (r : Render) : Type 0 where
   pub channels : (c : Channel) → slice_index_or r.channels (place_of_channel c) false ≡ has_channel history t c
   pub within : IsSceneWithin r.scene
 
--- each render is kept
-abbrev pub KnowsRenders : History → List Render → Type 0
-KnowsRenders history renders = (t f : ℕ) → frame_at history t ≡ Some f → IsSomeAnd (render_with t renders) (Shows history t)
+-- each render is kept, and none that did not happen yet
+pub record KnowsRenders (history : History) (renders : List Render) : Type 0 where
+  pub kept : (t f : ℕ) → frame_at history t ≡ Some f → IsSomeAnd (render_with t renders) (Shows history t)
+  pub happened : All (λ r. r.ticket ≤ length history) renders
 
 -- a past that its history led to, which is legal and had no seen tile in any flight, with the counts of public references and the renders
 pub record IsKept (past : Past) (held : List ℕ) (renders : List Render) : Type 0 where
