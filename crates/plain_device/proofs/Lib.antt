@@ -1,6 +1,8 @@
 pub mod Adding
+pub mod Closings
 pub mod Ended
 pub mod Entries
+pub mod FlightFacts
 pub mod GrantedScenes
 pub mod LastUses
 pub mod Legality
