@@ -19,22 +19,10 @@ use Rattle.plain_device.proofs.FlightFacts.{flights_have, flights_without, no_ti
 use Rattle.plain_device.proofs.Legality.{follow_more, open_lets, unseen_more}
 use Rattle.plain_device.proofs.Places.{range_more}
 use Rattle.plain_device.specs.Endings.{ended}
+use Rattle.plain_device.specs.Leaving.{IsEnding, first_flights}
 use Rattle.plain_device.specs.Open.{IsOpen, IsUnseen}
 
--- the flights of a past with one of the first n tickets
-abbrev pub first_flights : Past → ℕ → List ℕ
-first_flights past n = filter (λ t. has t (flights past.state)) (range_with_len 1 n)
-
--- a device at its end, after each flight with a ticket below t has left
-pub record IsEnding (past now : Past) (t : ℕ) : Type 0 where
-  pub from : 1 ≤ t
-  pub led : now ≡ after now.seen
-  pub unseen : IsUnseen now.seen
-  pub lets : (note : Entry) → is_called note ≡ false → let_follow now.seen note ≡ true
-  pub folded : now ≡ fold (λ p k. step p (Left k)) past (first_flights past (t - 1))
-  pub left : (k : ℕ) → k < t → has k (flights now.state) ≡ false
-  pub later : (k : ℕ) → t ≤ k → has k (flights now.state) ≡ has k (flights past.state)
-
+-- before any of them left
 pub ending_start : (past : Past) → past ≡ after past.seen → IsUnseen past.seen → IsOpen past.seen → IsEnding past past 1
 ending_start past led unseen open_ = record {
   from = omega arith;
@@ -57,11 +45,11 @@ more_flights past t from =
     ∙ ap (filter (λ t. has t (flights past.state))) (range_more 1 (t - 1) ∙ ap (λ k. range_with_len 1 (t - 1) ++ k ∷ []) last)
     ∙ filter-append (λ t. has t (flights past.state)) (range_with_len 1 (t - 1)) (t ∷ [])
 
-led_more : (past : Past) (e : Entry) → past ≡ after past.seen → step past e ≡ after (step past e).seen
+pub led_more : (past : Past) (e : Entry) → past ≡ after past.seen → step past e ≡ after (step past e).seen
 unfolding step
 led_more past e led = ap (λ (p : Past). step p e) led ∙ sym (after_more past.seen e)
 
-seen_more : (past : Past) (e : Entry) → (step past e).seen ≡ past.seen ++ e ∷ []
+pub seen_more : (past : Past) (e : Entry) → (step past e).seen ≡ past.seen ++ e ∷ []
 unfolding step
 seen_more past e = refl
 

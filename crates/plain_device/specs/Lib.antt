@@ -1,6 +1,7 @@
 pub mod Counts
 pub mod Endings
 pub mod Kept
+pub mod Leaving
 pub mod Named
 pub mod Open
 pub mod Shown
