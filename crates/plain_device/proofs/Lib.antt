@@ -1,7 +1,9 @@
 pub mod Adding
+pub mod Closings
 pub mod Ended
 pub mod Entering
 pub mod Entries
+pub mod FlightFacts
 pub mod GrantedScenes
 pub mod LastUses
 pub mod Legality

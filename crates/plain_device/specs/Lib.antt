@@ -3,6 +3,7 @@ pub mod Counting
 pub mod Counts
 pub mod Endings
 pub mod Kept
+pub mod Leaving
 pub mod Named
 pub mod Open
 pub mod Prepared
