@@ -1,4 +1,5 @@
 pub mod Adding
+pub mod Answered
 pub mod Ended
 pub mod Entries
 pub mod LastUses
