@@ -1,6 +1,7 @@
 // The sequential device over plain lists.
 #![tactic(auto)]
 
+pub mod answers;
 pub mod changes;
 pub mod creations;
 pub mod elements;
