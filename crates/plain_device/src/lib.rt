@@ -14,6 +14,7 @@ pub mod reaches;
 pub mod record;
 pub mod refusals;
 pub mod renders;
+pub mod replies;
 pub mod scenes;
 pub mod stage;
 pub mod sweeps;
