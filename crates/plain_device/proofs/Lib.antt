@@ -2,11 +2,17 @@ pub mod Adding
 pub mod Answered
 pub mod Ended
 pub mod Entries
+pub mod GrantedScenes
 pub mod LastUses
 pub mod NamedFacts
 pub mod Places
 pub mod Removals
 pub mod RenderFacts
 pub mod Rounds
+pub mod SceneLimits
+pub mod ShapeLimits
 pub mod Turns
+pub mod Typed
+pub mod Values
+pub mod Walked
 pub mod WorldFacts

@@ -16,6 +16,7 @@ use Rattle.std.proofs.lemmas.List.Sums.{count_by-le-length, sum_by-append}
 use Rattle.std.proofs.lemmas.List.FromFn.{length-range_with_len}
 use Rattle.kind_tables.specs.SceneObjects.{object_in, value_named}
 use Rattle.kind_tables.specs.Walks.{visited, walk}
+use Rattle.dev_types.specs.declared.refusals.Refused.{Refused}
 use Rattle.seq_model.proofs.Afters.{entry_early, entry_last, frame_early, frame_last, state_early, state_next}
 use Rattle.seq_model.specs.Builds.{builds, is_build_of, is_render_of, is_touched, is_touching, last_render, reach_of_world, world_at}
 use Rattle.seq_model.specs.Histories.{History, entry_at, frame_at, rendered}
@@ -23,7 +24,8 @@ use Rattle.seq_model.specs.Life.{has}
 use Rattle.seq_model.specs.Pictures.{state_before}
 use Rattle.seq_model.specs.State.{State, object_at, scene_objects}
 use Rattle.seq_model.specs.Steps.{after}
-use Rattle.seq_model.specs.declared.calls.Call.TheVariants.{Commit, UnmapArray}
+use Rattle.seq_model.specs.declared.calls.Call.{Call}
+use Rattle.seq_model.specs.declared.calls.Call.TheVariants.{Commit, RenderFrame, UnmapArray}
 use Rattle.seq_model.specs.declared.calls.Entry.{Entry}
 use Rattle.seq_model.specs.declared.calls.Entry.TheVariants.{Called}
 use Rattle.seq_model.specs.declared.calls.Reply.TheVariants as reply
@@ -279,6 +281,18 @@ knows_still history e worlds none untouched knows = record {
   counted = knows.counted ∙ sym (no_build history e none);
   known = λ w. knows.known w ∙ sym (use_kept history e w (not_rendered history e w none) ∙ same_use e untouched (last_use history w));
 }
+
+-- a call that was refused is one
+refused_is_still : (actor : ℕ) (call : Call) (refused : Refused) → (rendered (Called actor call (reply.Denied refused)) ≡ None) × ((objects : List ℕ) → is_touching objects (Called actor call (reply.Denied refused)) ≡ false)
+refused_is_still actor (RenderFrame h) refused = (refl, λ objects. refl)
+refused_is_still actor (Commit h) refused = (refl, λ objects. refl)
+refused_is_still actor (UnmapArray h number bytes) refused = (refl, λ objects. refl)
+refused_is_still actor _ refused = (refl, λ objects. refl)
+
+pub knows_refused : (history : History) (actor : ℕ) (call : Call) (refused : Refused) (worlds : Worlds) → KnowsWorlds history worlds → KnowsWorlds (history ++ Called actor call (reply.Denied refused) ∷ []) worlds
+knows_refused history actor call refused worlds knows =
+    knows_still history (Called actor call (reply.Denied refused)) worlds
+    (ap (option_and_then (world_of (after history).state)) (refused_is_still actor call refused).0) (refused_is_still actor call refused).1 knows
 
 -- an entry that touches h renders nothing, and touches each list that has h
 has_only : (h k : ℕ) → has h (k ∷ []) ≡ true → h ≡ k

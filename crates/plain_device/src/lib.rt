@@ -15,6 +15,7 @@ pub mod record;
 pub mod refusals;
 pub mod renders;
 pub mod replies;
+pub mod scene_laws;
 pub mod scenes;
 pub mod stage;
 pub mod sweeps;
