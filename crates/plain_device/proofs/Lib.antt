@@ -1,5 +1,7 @@
 pub mod Adding
 pub mod Answered
+pub mod Bounded
+pub mod Corners
 pub mod Ended
 pub mod Entries
 pub mod GrantedScenes

@@ -1,3 +1,4 @@
+pub mod Bounding
 pub mod Counts
 pub mod Kept
 pub mod Named

@@ -2,6 +2,7 @@
 #![tactic(auto)]
 
 pub mod answers;
+mod bounds;
 pub mod changes;
 pub mod creations;
 pub mod elements;

@@ -1,25 +1,36 @@
 //! What a call that no refusal applies to is answered.
-ghost use Rattle.std.specs.Prelude.{◌≡◌, ◌≤◌, IfOk, IsSome, IsTrue, Some, map, take};
+ghost use Rattle.std.specs.Prelude.{◌≡◌, IfOk, IsSome, IsTrue, None, Some, map};
 ghost use Rattle.std.specs.List.{list_all};
 ghost use Rattle.std.specs.Option.{option_and_then, option_map};
 ghost use Rattle.dev_types.specs.Bounded.{is_name};
 ghost use Rattle.kind_tables.specs.Kinds.{kind_of, subtypes_of};
 ghost use Rattle.kind_tables.specs.Ranges.{type_of_channel};
 ghost use Rattle.kind_tables.specs.Rows.{parameters_of, row_of};
-ghost use Rattle.seq_model.specs.Answers.{info_of, mapped_picture, readiness};
+ghost use Rattle.kind_tables.specs.Scenes.{primitives_of};
+ghost use Rattle.kind_tables.specs.WalkRefusals.{walk_refusal};
+ghost use Rattle.kind_tables.specs.declared.kinds.Kind.TheVariants.{WorldDefault};
+ghost use Rattle.plain_device.specs.Bounding.{IsTold};
+ghost use Rattle.scene_read.specs.Starts.{all_seen};
+ghost use Rattle.seq_model.specs.Answers.{answer, bounds_of, granted, info_of, mapped_picture, progress_of, property_by, property_of, readiness};
 ghost use Rattle.seq_model.specs.Histories.{frame_at};
 ghost use Rattle.seq_model.specs.Pictures.{picture_at, plane_of};
-ghost use Rattle.seq_model.specs.Refusals.{phase_at};
+ghost use Rattle.seq_model.specs.Refusals.{phase_at, refusal, walk_at};
+ghost use Rattle.seq_model.specs.State.{scene_objects};
 ghost use Rattle.seq_model.specs.Steps.{next_place};
 ghost use Rattle.seq_model.specs.declared.calls.Reply.TheVariants as reply;
 
+use crate::bounds::bounds_of;
 use crate::objects::Shows;
 use crate::record::Record;
-use crate::renders::Render;
-use dev_types::{Bytes, Channel, DataType, Handle, Name, Names, NoMemory, ParamInfo, TypeList};
+use crate::stage::Stage;
+use dev_types::{
+    Bytes, Channel, DataType, Handle, Name, Names, NoMemory, ParamInfo, TypeList, Value,
+};
+use fx_math::Scene;
 use kind_tables::{Kind, Row, kind_of, parameters_of, row_of, subtypes_of};
 use picture_model::{Plane, picture};
-use seq_model::Reply;
+use scene_read::{Visits, scene};
+use seq_model::{Call, Reply};
 use std::alloc::{AllocError, Global};
 
 /// The type of what a channel shows.
@@ -164,6 +175,75 @@ impl Record {
     }
 }
 
+/// A scene with all that is visited. The only error is want of memory.
+#[tactic(auto, unfolding(kind_tables::specs::Scenes::scene_by))]
+fn shown(alloc: Global, stage: &Stage, h: Handle, visits: &Visits) -> Result<Scene, NoMemory>
+    ensures { IfOk result (λ shown. shown.primitives ≡ primitives_of (scene_objects stage.now) (all_seen (scene_objects stage.now) visits.now)) }
+{
+    scene(alloc, stage, h, visits)
+}
+
+impl Record {
+    /// The box of what a world shows. The only error is want of memory.
+    fn bounds(&self, alloc: Global, h: Handle) -> Result<[i32; 6], NoMemory>
+        requires { walk_refusal (scene_objects self.now.state) (walk_at self.now h) ≡ None }
+        ensures { IfOk result (λ bounds. bounds ≡ bounds_of (primitives_of (scene_objects self.now.state) (walk_at self.now h))) }
+    {
+        let stage = &self.stage;
+        let visits = self.walk(alloc, h)?;
+        let shown = shown(alloc, stage, h, &visits)?;
+        Ok(bounds_of(alloc, shown.primitives.as_slice())?)
+    }
+
+    /// How far a frame is rendered: one, in units of 1/65536, where it is done.
+    fn progress(&self, h: Handle) -> i32
+        ensures { result ≡ progress_of (phase_at self.now h) }
+    {
+        match self.shows(h) {
+            Shows::Picture(_) => 65536,
+            _ => 0,
+        }
+    }
+
+    /// The property of an object of a kind. The only error is want of memory.
+    fn property_by(&self, alloc: Global, h: Handle, kind: Kind) -> Result<Value, NoMemory>
+        requires { kind ≡ WorldDefault → walk_refusal (scene_objects self.now.state) (walk_at self.now h) ≡ None }
+        ensures { IfOk result (λ value. value ≡ property_by self.now h kind) }
+    {
+        match kind {
+            Kind::WorldDefault => Ok(Value::ScalarBox3(self.bounds(alloc, h)?)),
+            _ => Ok(Value::Scalar(self.progress(h))),
+        }
+    }
+
+    /// A property that is asked for (ANARI 1.0 Specification, object properties). Handle 0 stands for the device, which tells its
+    /// version. The only error is want of memory.
+    fn property(&self, alloc: Global, h: Handle) -> Result<Option<Value>, NoMemory>
+        requires { IsTold self.now h }
+        ensures { IfOk result (λ value. value ≡ property_of self.now h) }
+    {
+        if h.0 == 0 {
+            return Ok(Some(Value::Int32(1)));
+        }
+        let Some(object) = self.get(h) else {
+            return Ok(None);
+        };
+        Ok(Some(self.property_by(alloc, h, object.kind)?))
+    }
+
+    /// A property that is asked for, as a reply.
+    fn value(&self, alloc: Global, h: Handle) -> Result<Reply, NoMemory>
+        requires told { IsTold self.now h }
+        requires there { IsSome (option_map reply.Val (property_of self.now h)) }
+        ensures { IfOk result (λ value. option_map reply.Val (property_of self.now h) ≡ Some value) }
+    {
+        match self.property(alloc, h)? {
+            Some(value) => Ok(Reply::Val(value)),
+            None => unreachable!(),
+        }
+    }
+}
+
 /// What is told of a kind of object.
 fn listed(alloc: Global, ty: DataType, subtype: &Name) -> Result<Reply, NoMemory>
     requires { IsSome (option_map (λ kind. reply.Listed (parameters_of kind)) (kind_of ty subtype.now)) }
@@ -190,5 +270,40 @@ fn told(alloc: Global, ty: DataType, subtype: &Name, name: &Name) -> Result<Repl
     match row_at(ty, subtype, name) {
         Some(row) => Ok(Reply::Info(info_of(alloc, row)?)),
         None => unreachable!(),
+    }
+}
+
+impl Record {
+    /// The reply to a call that no refusal applies to. The only error is want of memory.
+    fn granted(&self, alloc: Global, call: &Call) -> Result<Reply, NoMemory>
+        requires allowed { refusal self.now call.now ≡ None }
+        requires answered { IsSome (granted self.now call.now) }
+        ensures { IfOk result (λ given. granted self.now call.now ≡ Some given) }
+    {
+        Ok(match call {
+            Call::NewObject { .. } | Call::NewArray { .. } => Reply::Made(self.next()),
+            Call::UnmapParameterArray { .. } => Reply::Made(self.next()),
+            Call::MapArray { .. } | Call::MapParameterArray { .. } => Reply::Lent(self.place()),
+            Call::FrameReady { h, wait } => self.readiness(*h, *wait),
+            Call::MapFrame { h, channel } => self.mapped(alloc, *h, *channel)?,
+            Call::GetProperty { h, .. } => self.value(alloc, *h)?,
+            Call::Subtypes { ty } => Reply::Listed(subtypes(alloc, *ty)?),
+            Call::ObjectInfo { ty, subtype } => listed(alloc, *ty, subtype)?,
+            Call::ParameterInfo { ty, subtype, name } => told(alloc, *ty, subtype, name)?,
+            _ => Reply::Done,
+        })
+    }
+
+    /// The reply to a call, where no tile of a flight was seen finished yet. The call may not wait for a flight. The only error is
+    /// want of memory.
+    #[tactic(auto, unfolding(seq_model::specs::Answers::answer))]
+    pub fn answer(&self, alloc: Global, call: &Call) -> Result<Reply, NoMemory>
+        requires { IsSome (answer self.now call.now) }
+        ensures { IfOk result (λ reply. answer self.now call.now ≡ Some reply) }
+    {
+        match self.refusal(alloc, call)? {
+            Some(refused) => Ok(Reply::Denied(refused)),
+            None => self.granted(alloc, call),
+        }
     }
 }
