@@ -1,5 +1,8 @@
 pub mod Adding
+pub mod Answered
+pub mod Bounded
 pub mod Closings
+pub mod Corners
 pub mod Ended
 pub mod Entering
 pub mod Entries

@@ -323,7 +323,7 @@ module _ (objects : SceneObjects) (f : ℕ) (frame : SceneObject) (typed : IsTyp
           lighting_within lights m renderer few within (subst (λ k. AllPass (tests_of k m renderer)) (is_renderer renderer.kind takes.0) visited.1.1.0)
 
 -- all that a walk shows
-primitives_within : (objects : SceneObjects) (f : ℕ) → IsTyped objects → All (HoldsBelow (Passes objects) objects) (walk objects f) → All IsPrimitiveWithin (primitives_of objects (walk objects f))
+pub primitives_within : (objects : SceneObjects) (f : ℕ) → IsTyped objects → All (HoldsBelow (Passes objects) objects) (walk objects f) → All IsPrimitiveWithin (primitives_of objects (walk objects f))
 unfolding primitives_of
 primitives_within objects f typed below =
     put_together IsPrimitiveWithin (primitives_at objects) (walk objects f)

@@ -1,4 +1,5 @@
 pub mod Booked
+pub mod Bounding
 pub mod Counting
 pub mod Counts
 pub mod Endings

@@ -2,6 +2,8 @@
 #![tactic(auto)]
 
 pub mod books;
+pub mod answers;
+mod bounds;
 pub mod changes;
 pub mod counting;
 pub mod creations;
@@ -16,6 +18,7 @@ pub mod reaches;
 pub mod record;
 pub mod refusals;
 pub mod renders;
+pub mod replies;
 pub mod scene_laws;
 pub mod scenes;
 pub mod stage;

@@ -18,7 +18,7 @@ use std::marker::Model;
 /// All that happened on a device, and where it stands.
 #[derive(Drop)]
 pub struct Record {
-    journal: Vec<Entry>,
+    pub(crate) journal: Vec<Entry>,
     pub(crate) stage: Stage,
     // What each flight reached, by rising ticket.
     reached: Vec<Reach>,
