@@ -25,7 +25,7 @@ use Rattle.seq_model.specs.declared.calls.Entry.TheVariants.{Called, Finished, L
 use Rattle.seq_model.specs.declared.calls.Reply.{Reply}
 use Rattle.seq_model.specs.declared.calls.Reply.TheVariants as reply
 use Rattle.plain_device.proofs.RenderFacts.{was_rendered}
-use Rattle.plain_device.proofs.Replies.{HaveTiles, SeesNone, answer_sees_none, like_itself}
+use Rattle.plain_device.proofs.SeenTiles.{HaveTiles, SeesNone, answer_sees_none, like_itself}
 use Rattle.plain_device.specs.Open.{IsOpen, IsUnseen}
 
 -- what a history with one more entry lets follow, and what its replies told

@@ -17,7 +17,7 @@ pub mod PublicCounts
 pub mod Removals
 pub mod RenderFacts
 pub mod RendersKept
-pub mod Replies
+pub mod SeenTiles
 pub mod Rounds
 pub mod SceneLimits
 pub mod ShapeLimits

@@ -7,35 +7,29 @@ ghost use Rattle.seq_model.specs.Histories.{public};
 ghost use Rattle.seq_model.specs.Refusals.{dead, first_of, has_type, not_held, own, own_of_type, wrong_kind};
 ghost use Rattle.seq_model.specs.State.{object_at};
 
+use crate::books::Books;
 use crate::objects::Object;
-use crate::reaches::Reach;
 use crate::renders::Render;
 use crate::stage::Stage;
 use dev_types::{DataType, Handle, Refused};
-use seq_model::Entry;
 use std::marker::Model;
 
 /// All that happened on a device, and where it stands.
 #[derive(Drop)]
 pub struct Record {
-    pub(crate) journal: Vec<Entry>,
     pub(crate) stage: Stage,
-    // What each flight reached, by rising ticket.
-    reached: Vec<Reach>,
-    // How many public references there are to each handle, from handle 1 on.
-    held: Vec<u64>,
-    renders: Vec<Render>,
+    pub(crate) books: Books,
 }
 
 impl Model for Record {
-    ghost use Rattle.plain_device.specs.Kept.{IsKept};
+    ghost use Rattle.plain_device.specs.Whole.{IsWhole, past_in};
     ghost use Rattle.seq_model.specs.Steps.{Past};
 
     ghost Value = { Past };
 
-    ghost view = { λ r. record { seen = r.journal.items; state = r.stage; reached = r.reached.items } };
+    ghost view = { λ r. past_in r.stage r.books };
 
-    ghost invariant = { λ r. IsKept (record { seen = r.journal.items; state = r.stage; reached = r.reached.items }) r.held.items r.renders.items };
+    ghost invariant = { λ r. IsWhole r.stage r.books };
 }
 
 impl Record {
@@ -43,7 +37,7 @@ impl Record {
     fn public(&self, h: Handle) -> u64
         ensures { result ≡ public self.now.seen h }
     {
-        count_at(&self.held, h)
+        count_at(&self.books.held, h)
     }
 
     /// The objects, by their handles.
@@ -57,7 +51,7 @@ impl Record {
     pub fn renders(&self) -> &[Render]
         ensures { KnowsRenders self.now.seen result.now }
     {
-        &self.renders
+        &self.books.renders
     }
 
     /// The object with this handle, if it is there.

@@ -120,7 +120,7 @@ impl Record {
     pub fn place(&self) -> u64
         ensures { result ≡ next_place self.now }
     {
-        let journal = &self.journal;
+        let journal = &self.books.journal;
         journal.len() as u64 + 1
     }
 

@@ -12,7 +12,7 @@ use dev_types::Handle;
 use seq_model::{Call, Reply};
 
 /// Notes a render of a frame with this world, if it has one, and what that reaches.
-fn note_render(worlds: &mut Worlds, world: Option<Handle>, reach: Vec<Handle>)
+pub fn note_render(worlds: &mut Worlds, world: Option<Handle>, reach: Vec<Handle>)
     requires { HasRoom worlds.old }
     ensures { (history : History) (actor f : ℕ)
         → length history < 2 ^ 64 - 1
