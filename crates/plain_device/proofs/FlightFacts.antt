@@ -84,7 +84,7 @@ flights_after history e k =
     ∙ ap (λ t. t || has k (changed (after history) e).stopped)
     (swept_flies (step (after history) e) (changed (after history) e) k (changed_rises (after history) e (rises history)).0 (flown_changed history e (flown history)))
 
--- what a test adds to two others
+-- a test beside others
 none_of : (b : Bool) → false ≡ (b && false)
 none_of true = refl
 none_of false = refl
@@ -161,7 +161,8 @@ zero_not_stopped history = grows_by (λ history. has 0 (after history).state.sto
             (sym (ap (has 0) (swept_next (step (after history) e) (changed (after history) e)).1)
             ∙ sym (ap (λ (s : State). has 0 s.stopped) (step_state (after history) e)) ∙ sym (ap (λ (past : Past). has 0 past.state.stopped) (after_more history e)) ∙ is))
           where
-            of : (has 0 (after history).state.stopped ≡ true) ⊎ ((h : ℕ) × (p : Object) × (object_at (after history).state h ≡ Some p) × (p.phase ≡ Flight 0) × ((o : Object) → object_at (changed (after history) e) h ≡ Some o → o.phase ≡ Empty)) → true ≡ false
+            of : (has 0 (after history).state.stopped ≡ true)
+                ⊎ ((h : ℕ) × (p : Object) × (object_at (after history).state h ≡ Some p) × (p.phase ≡ Flight 0) × ((o : Object) → object_at (changed (after history) e) h ≡ Some o → o.phase ≡ Empty)) → true ≡ false
             of (inl old) = sym old ∙ now
             of (inr (h, p, was, flew, empties)) =
                 let inside : (0 < 0) × (0 ≤ length history) = frame_within history 0 h (own_tickets history h 0 p was (ticket_in_flight p.phase 0 (ap ticket_in flew))) in
