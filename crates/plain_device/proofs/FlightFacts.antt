@@ -1,9 +1,9 @@
--- Which flights there are after one of them left.
-use Rattle.std.proofs.Common.{ℕ, ◌==◌, ◌≡◌, ◌<◌, ◌≤◌, ◌∙◌, ◌⊎◌, inl, inr, not, Bool, true, false, List, [], ◌∷◌, ◌++◌, Option, Some, None, map, refl, sym, ap, length, arith}
+-- Which flights there are, and how many, after one of them ended or left.
+use Rattle.std.proofs.Common.{ℕ, ◌==◌, ◌≡◌, ◌<◌, ◌≤◌, ◌∙◌, ◌⊎◌, inl, inr, not, Bool, true, false, List, [], ◌∷◌, ◌++◌, Option, Some, None, map, refl, sym, ap, length, arith, ◌+◌, length-append, subst}
 use Rattle.std.specs.Prelude.{◌&&◌, ◌||◌, cond}
-use Rattle.std.specs.List.{filter, filter_map, list_any}
+use Rattle.std.specs.List.{cons_option, filter, filter_map, list_any}
 use Rattle.std.specs.Option.{option_map_or}
-use Rattle.std.proofs.lemmas.Bool.{eqb-true, or_left}
+use Rattle.std.proofs.lemmas.Bool.{eqb-true, or_cases, or_left}
 use Rattle.std.proofs.lemmas.List.Folds.{list_any-append}
 use Rattle.std.proofs.lemmas.Map.Entries.{option_filter}
 use Rattle.std.proofs.lemmas.Map.Views.{any-filter_same}
@@ -17,10 +17,10 @@ use Rattle.seq_model.proofs.Sweeps.{IsFlown, flown, flown_changed, flying_is_rea
 use Rattle.seq_model.specs.Histories.{History, public}
 use Rattle.seq_model.specs.Legal.{is_flying}
 use Rattle.seq_model.specs.Life.{has}
-use Rattle.seq_model.specs.State.{Object, Empty, Flight, State, flights, is_in_flight, object_at, ticket_in}
+use Rattle.seq_model.specs.State.{Object, Phase, Empty, Flight, Done, State, flights, is_in_flight, object_at, ticket_in}
 use Rattle.seq_model.specs.Steps.{Past, after, change, end_flight, end_flights, is_reached, next_place, set_phase, step, swept}
 use Rattle.seq_model.specs.declared.calls.Entry.{Entry}
-use Rattle.seq_model.specs.declared.calls.Entry.TheVariants.{Left}
+use Rattle.seq_model.specs.declared.calls.Entry.TheVariants.{Finished, Left}
 
 -- two tests that pass alike
 same_truth : (a b : Bool) → (a ≡ true → b ≡ true) → (b ≡ true → a ≡ true) → a ≡ b
@@ -84,7 +84,7 @@ flights_after history e k =
     ∙ ap (λ t. t || has k (changed (after history) e).stopped)
     (swept_flies (step (after history) e) (changed (after history) e) k (changed_rises (after history) e (rises history)).0 (flown_changed history e (flown history)))
 
--- what a test adds to two others
+-- a test beside others
 none_of : (b : Bool) → false ≡ (b && false)
 none_of true = refl
 none_of false = refl
@@ -161,7 +161,8 @@ zero_not_stopped history = grows_by (λ history. has 0 (after history).state.sto
             (sym (ap (has 0) (swept_next (step (after history) e) (changed (after history) e)).1)
             ∙ sym (ap (λ (s : State). has 0 s.stopped) (step_state (after history) e)) ∙ sym (ap (λ (past : Past). has 0 past.state.stopped) (after_more history e)) ∙ is))
           where
-            of : (has 0 (after history).state.stopped ≡ true) ⊎ ((h : ℕ) × (p : Object) × (object_at (after history).state h ≡ Some p) × (p.phase ≡ Flight 0) × ((o : Object) → object_at (changed (after history) e) h ≡ Some o → o.phase ≡ Empty)) → true ≡ false
+            of : (has 0 (after history).state.stopped ≡ true)
+                ⊎ ((h : ℕ) × (p : Object) × (object_at (after history).state h ≡ Some p) × (p.phase ≡ Flight 0) × ((o : Object) → object_at (changed (after history) e) h ≡ Some o → o.phase ≡ Empty)) → true ≡ false
             of (inl old) = sym old ∙ now
             of (inr (h, p, was, flew, empties)) =
                 let inside : (0 < 0) × (0 ≤ length history) = frame_within history 0 h (own_tickets history h 0 p was (ticket_in_flight p.phase 0 (ap ticket_in flew))) in
@@ -177,3 +178,70 @@ no_ticket_zero history = flights_have (after history).state 0 ∙ ap (λ t. is_f
         one_that_passes (λ entry. is_in_flight 0 entry.1) 1 (after history).state.next (after history).state.objects (rises history) is in
         let inside : (0 < 0) × (0 ≤ length history) = frame_within history 0 one.0 (own_tickets history one.0 0 one.1 one.2 (ticket_in_flight one.1.phase 0 (has_ticket 0 one.1 one.3))) in
         absurd (omega (arith, inside.0))
+
+-- a frame whose flight ends has no ticket any more
+ticket_ends : (t : ℕ) (phase : Phase) (o : Object) → ticket_in phase ≡ None → ticket_in (end_flight t phase o).phase ≡ cond (is_in_flight t o) None (ticket_in o.phase)
+unfolding end_flight
+ticket_ends t phase o none = by (is_in_flight t o)
+  where
+    by : (b : Bool) → ticket_in (cond b (set_phase phase o) o).phase ≡ cond b None (ticket_in o.phase)
+    by true = none
+    by false = refl
+
+one_ends : (t : ℕ) (x : Option ℕ) (few many : List ℕ) (later : Bool) → length few + cond {A = ℕ} later 1 0 ≤ length many →
+    length (cons_option (cond (option_map_or (λ u. u == t) x false) None x) few) + cond {A = ℕ} (option_map_or (λ u. u == t) x false || later) 1 0 ≤ length (cons_option x many)
+one_ends t None few many later less = less
+one_ends t (Some u) few many later less = by (u == t)
+  where
+    by : (b : Bool) → length (cons_option (cond b None (Some u)) few) + cond {A = ℕ} (b || later) 1 0 ≤ length (u ∷ many)
+    by true = omega (arith, less)
+    by false = omega (arith, less)
+
+frames_fewer : (t : ℕ) (phase : Phase) (es : List (ℕ × Object)) → ticket_in phase ≡ None →
+    length (filter_map (λ (entry : ℕ × Object). ticket_in entry.1.phase) (map (λ (entry : ℕ × Object). (entry.0, end_flight t phase entry.1)) es))
+    + cond {A = ℕ} (list_any (λ (entry : ℕ × Object). is_in_flight t entry.1) es) 1 0
+    ≤ length (filter_map (λ (entry : ℕ × Object). ticket_in entry.1.phase) es)
+frames_fewer t phase [] none = omega arith
+frames_fewer t phase (e ∷ es) none =
+    let frames : List ℕ = filter_map (λ (entry : ℕ × Object). ticket_in entry.1.phase) es in
+    let ended : List ℕ = filter_map (λ (entry : ℕ × Object). ticket_in entry.1.phase) (map (λ (entry : ℕ × Object). (entry.0, end_flight t phase entry.1)) es) in
+    let later : Bool = list_any (λ (entry : ℕ × Object). is_in_flight t entry.1) es in
+    subst (λ x. length (cons_option x ended) + cond {A = ℕ} (is_in_flight t e.1 || later) 1 0 ≤ length (cons_option (ticket_in e.1.phase) frames))
+    (sym (ticket_ends t phase e.1 none)) (one_ends t (ticket_in e.1.phase) ended frames later (frames_fewer t phase es none))
+
+stopped_fewer : (t : ℕ) (us : List ℕ) → length (filter (λ u. not (u == t)) us) + cond {A = ℕ} (has t us) 1 0 ≤ length us
+stopped_fewer t [] = omega arith
+stopped_fewer t (u ∷ us) = by (u == t) (has t us) (stopped_fewer t us)
+  where
+    by : (b later : Bool) → length (filter (λ u. not (u == t)) us) + cond {A = ℕ} later 1 0 ≤ length us →
+        length (cond (not b) (u ∷ filter (λ u. not (u == t)) us) (filter (λ u. not (u == t)) us)) + cond {A = ℕ} (b || later) 1 0 ≤ length (u ∷ us)
+    by true later less = omega (arith, less)
+    by false later less = omega (arith, less)
+
+-- so there is one flight less where one ends
+pub finished_frees : (place t : ℕ) (s : State) → is_flying s t ≡ true → length (flights (change place (Finished t) s)) + 1 ≤ length (flights s)
+unfolding change end_flights
+finished_frees place t s flies =
+    let frames : List ℕ = filter_map (λ (entry : ℕ × Object). ticket_in entry.1.phase) s.objects in
+    let ended : List ℕ = filter_map (λ (entry : ℕ × Object). ticket_in entry.1.phase) (map (λ (entry : ℕ × Object). (entry.0, end_flight t (Done t) entry.1)) s.objects) in
+    let one : cond {A = ℕ} (is_flying s t) 1 0 ≡ 1 = ap (λ b. cond {A = ℕ} b 1 0) flies in
+    omega (arith, one, frames_fewer t (Done t) s.objects refl, length-append frames s.stopped, length-append ended s.stopped)
+
+-- or leaves
+pub left_frees : (place t : ℕ) (s : State) → has t (flights s) ≡ true → length (flights (change place (Left t) s)) + 1 ≤ length (flights s)
+unfolding change end_flights
+left_frees place t s there =
+    let frames : List ℕ = filter_map (λ (entry : ℕ × Object). ticket_in entry.1.phase) s.objects in
+    let ended : List ℕ = filter_map (λ (entry : ℕ × Object). ticket_in entry.1.phase) (map (λ (entry : ℕ × Object). (entry.0, end_flight t Empty entry.1)) s.objects) in
+    omega (
+      arith,
+      one (or_cases (is_flying s t) (has t s.stopped) (sym (flights_have s t) ∙ there)),
+      frames_fewer t Empty s.objects refl,
+      stopped_fewer t s.stopped,
+      length-append frames s.stopped,
+      length-append ended (filter (λ u. not (u == t)) s.stopped),
+    )
+  where
+    one : (is_flying s t ≡ true) ⊎ (has t s.stopped ≡ true) → 1 ≤ cond {A = ℕ} (is_flying s t) 1 0 + cond {A = ℕ} (has t s.stopped) 1 0
+    one (inl flies) = let first : cond {A = ℕ} (is_flying s t) 1 0 ≡ 1 = ap (λ b. cond {A = ℕ} b 1 0) flies in omega (arith, first)
+    one (inr stopped) = let second : cond {A = ℕ} (has t s.stopped) 1 0 ≡ 1 = ap (λ b. cond {A = ℕ} b 1 0) stopped in omega (arith, second)

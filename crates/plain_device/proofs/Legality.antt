@@ -92,14 +92,14 @@ rises_from_none readings None all = tt
 rises_from_none readings (Some r) all = All-weaker (λ (r : ℕ × ℕ). r.1 ≡ 0) (λ (earlier : ℕ × ℕ). earlier.0 ≡ r.0 → earlier.1 ≤ r.1) (λ earlier none same. omega (arith, none)) readings all
 
 -- a reply that sees none reads as none
-none_read : (given : ℕ) → given ≡ 0 → (x : Option ℕ) → MatchOption {T = ℕ × ℕ} (option_map (λ t. (t, given)) x) (Unit {0}) (λ r. r.1 ≡ 0)
-none_read given none None = tt
-none_read given none (Some t) = none
+ticket_reads_none : (given : ℕ) → given ≡ 0 → (x : Option ℕ) → MatchOption {T = ℕ × ℕ} (option_map (λ t. (t, given)) x) (Unit {0}) (λ r. r.1 ≡ 0)
+ticket_reads_none given none None = tt
+ticket_reads_none given none (Some t) = none
 
 reads_none : (past : Past) (actor : ℕ) (call : Call) (r : Reply) → SeesNone r → MatchOption (reading past (Called actor call r)) (Unit {0}) (λ r. r.1 ≡ 0)
-reads_none past actor (FrameReady h wait) (reply.NotReady given of) none = none_read given none.0 (ticket_in (phase_at past h))
-reads_none past actor (RenderFrame h) (reply.Denied (InFlight given of)) none = none_read given none.0 (ticket_in (phase_at past h))
-reads_none past actor (MapFrame h c) (reply.Denied (InFlight given of)) none = none_read given none.0 (ticket_in (phase_at past h))
+reads_none past actor (FrameReady h wait) (reply.NotReady given of) none = ticket_reads_none given none.0 (ticket_in (phase_at past h))
+reads_none past actor (RenderFrame h) (reply.Denied (InFlight given of)) none = ticket_reads_none given none.0 (ticket_in (phase_at past h))
+reads_none past actor (MapFrame h c) (reply.Denied (InFlight given of)) none = ticket_reads_none given none.0 (ticket_in (phase_at past h))
 reads_none past actor _ _ none = tt
 
 -- a frame of a scene within the limits has tiles

@@ -1,5 +1,5 @@
 -- A reply that is right sees none of some tiles, where it tells of a flight.
-use Rattle.std.proofs.Common.{ℕ, zero, suc, ◌≡◌, ◌<◌, not, Bool, true, false, List, [], ◌∷◌, Option, Some, None, refl, sym, subst, length}
+use Rattle.std.proofs.Common.{ℕ, zero, suc, ◌≡◌, ◌<◌, not, Bool, true, false, List, [], ◌∷◌, ◌++◌, Option, Some, None, refl, sym, subst, length}
 use Rattle.std.specs.Prelude.{cond, codes, nat_lt}
 use Rattle.std.specs.Bool.{then_some}
 use Rattle.std.specs.List.{find}
@@ -24,7 +24,7 @@ use Rattle.kind_tables.specs.declared.kinds.Kind.{Kind}
 use Rattle.kind_tables.specs.declared.kinds.Kind.TheVariants.{FrameDefault, WorldDefault}
 use Rattle.seq_model.specs.Answers.{IsLike, answer, granted, mapped_picture, property_of, readiness}
 use Rattle.seq_model.specs.Pictures.{tiles_at}
-use Rattle.seq_model.specs.Refusals.{bad_elements, dead, first_of, given_handles, in_flight, is_bad_shape, no_channel, no_picture, not_held, object_of_value, phase_at, refusal, refusal_of_info, refusal_of_property, refusals_of, walk_at, wrong_kind, wrong_value}
+use Rattle.seq_model.specs.Refusals.{bad_elements, dead, first_of, given_handles, in_flight, is_bad_shape, no_channel, no_picture, not_held, object_of_value, own_of_type, phase_at, refusal, refusal_of_info, refusal_of_property, refusals_of, some_channel_mapped, this_channel_mapped, walk_at, wrong_kind, wrong_value}
 use Rattle.seq_model.specs.State.{Phase, Empty, Flight, Done, object_at, scene_objects}
 use Rattle.seq_model.specs.Steps.{Past}
 use Rattle.seq_model.specs.declared.calls.Call.{Call}
@@ -161,6 +161,15 @@ of_info : (kind : Option Kind) (name : List ℕ) → SeenIn (refusal_of_info kin
 of_info None name = tt
 of_info (Some kind) name = of_then (is_none (row_of kind name)) NoSuchName tt
 
+of_dead_value : (past : Past) (v : Value) → SeenIn (option_and_then (dead past) (object_of_value v))
+of_dead_value past v = of_both (dead past) (of_dead past) (object_of_value v)
+
+of_not_held_value : (past : Past) (v : Value) → SeenIn (option_and_then (not_held past) (object_of_value v))
+of_not_held_value past v = of_both (not_held past) (of_not_held past) (object_of_value v)
+
+of_frame : (past : Past) (h : ℕ) (xs : List (Option Refused)) → AllSeenIn xs → AllSeenIn (own_of_type past h ty.Frame ++ xs)
+of_frame past h xs rest = (of_dead past h, (of_not_held past h, (of_wrong_kind past h ty.Frame, rest)))
+
 -- and all those of a call
 of_call : (past : Past) (call : Call) → HaveTiles past → AllSeenIn (refusals_of past call)
 unfolding refusals_of
@@ -170,7 +179,7 @@ of_call past (NewArray elem count stride origin bytes) tiles =
 of_call past (Retain h) tiles = (of_dead past h, (of_not_held past h, tt))
 of_call past (Release h) tiles = (of_dead past h, (of_not_held past h, tt))
 of_call past (SetParameter h name v) tiles =
-    (of_dead past h, (of_both (dead past) (of_dead past) (object_of_value v), (of_not_held past h, (of_both (not_held past) (of_not_held past) (object_of_value v), (of_value past v, (of_then _ BadType tt, (of_then _ UnknownObjectParameter tt, tt)))))))
+    (of_dead past h, (of_dead_value past v, (of_not_held past h, (of_not_held_value past v, (of_value past v, (of_then _ BadType tt, (of_then _ UnknownObjectParameter tt, tt)))))))
 of_call past (UnsetParameter h name) tiles = (of_dead past h, (of_not_held past h, tt))
 of_call past (UnsetAll h) tiles = (of_dead past h, (of_not_held past h, tt))
 of_call past (Commit h) tiles = (of_dead past h, (of_not_held past h, tt))
@@ -179,11 +188,13 @@ of_call past (UnmapArray h number bytes) tiles = (of_then _ NotMapped tt, tt)
 of_call past (MapParameterArray h name elem count) tiles = (of_dead past h, (of_not_held past h, (of_then _ BadType tt, (of_then _ UnknownObjectParameter tt, (of_then _ BadShape tt, tt)))))
 of_call past (UnmapParameterArray h name number bytes) tiles = (of_then _ NotMapped tt, tt)
 of_call past (RenderFrame h) tiles =
-    (of_dead past h, (of_not_held past h, (of_wrong_kind past h ty.Frame, (of_mapped (walk_at past h), (of_flight past (phase_at past h) (tiles h), (of_then _ ChannelMapped tt, (of_fault (scene_objects past.state) (walk_at past h), tt)))))))
-of_call past (FrameReady h wait) tiles = (of_dead past h, (of_not_held past h, (of_wrong_kind past h ty.Frame, (of_no_picture (phase_at past h), tt))))
-of_call past (DiscardFrame h) tiles = (of_dead past h, (of_not_held past h, (of_wrong_kind past h ty.Frame, (of_then _ ChannelMapped tt, tt))))
+    of_frame past h (first_mapped (walk_at past h) ∷ in_flight past (phase_at past h) ∷ some_channel_mapped past h ∷ fault_of (scene_objects past.state) (walk_at past h) ∷ [])
+    (of_mapped (walk_at past h), (of_flight past (phase_at past h) (tiles h), (of_then _ ChannelMapped tt, (of_fault (scene_objects past.state) (walk_at past h), tt))))
+of_call past (FrameReady h wait) tiles = of_frame past h (no_picture (phase_at past h) ∷ []) (of_no_picture (phase_at past h), tt)
+of_call past (DiscardFrame h) tiles = of_frame past h (some_channel_mapped past h ∷ []) (of_then _ ChannelMapped tt, tt)
 of_call past (MapFrame h c) tiles =
-    (of_dead past h, (of_not_held past h, (of_wrong_kind past h ty.Frame, (of_flight past (phase_at past h) (tiles h), (of_no_picture (phase_at past h), (of_then _ ChannelMapped tt, (of_no_channel past (phase_at past h) c, tt)))))))
+    of_frame past h (in_flight past (phase_at past h) ∷ no_picture (phase_at past h) ∷ this_channel_mapped past h c ∷ no_channel past (phase_at past h) c ∷ [])
+    (of_flight past (phase_at past h) (tiles h), (of_no_picture (phase_at past h), (of_then _ ChannelMapped tt, (of_no_channel past (phase_at past h) c, tt))))
 of_call past (UnmapFrame h number) tiles = (of_then _ NotMapped tt, tt)
 of_call past (GetProperty zero name) tiles = (of_then _ NoSuchName tt, tt)
 of_call past (GetProperty (suc h) name) tiles =
