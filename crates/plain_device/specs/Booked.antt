@@ -66,3 +66,12 @@ pub record IsNoted (e : Entry) (old new : Books) : Type 0 where
   pub worlds : new.worlds ≡ old.worlds
   pub marks : new.marks.items ≡ old.marks.items
   pub space : vec_capacity new.journal ≡ vec_capacity old.journal
+
+-- the books with other marks, as many
+pub record IsMarked (old new : Books) : Type 0 where
+  pub journal : new.journal ≡ old.journal
+  pub reached : new.reached ≡ old.reached
+  pub held : new.held ≡ old.held
+  pub renders : new.renders ≡ old.renders
+  pub worlds : new.worlds ≡ old.worlds
+  pub marks : length new.marks.items ≡ length old.marks.items

@@ -23,6 +23,7 @@ pub mod scene_laws;
 pub mod scenes;
 pub mod stage;
 pub mod sweeps;
+pub mod telling;
 #[cfg(test)]
 mod tests_sweeps;
 pub mod uses;

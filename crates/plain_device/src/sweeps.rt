@@ -10,9 +10,12 @@ ghost use Rattle.seq_model.specs.Life.{is_root, live, loan_count};
 ghost use Rattle.seq_model.specs.State.{object_at};
 ghost use Rattle.seq_model.specs.Steps.{is_reached};
 ghost use Rattle.seq_model.specs.Told.{end_of_array, end_of_object, gone};
+ghost use Rattle.plain_device.specs.Booked.{IsMarked};
 ghost use Rattle.plain_device.specs.Counts.{count_at};
+ghost use Rattle.plain_device.specs.Whole.{swept_by};
 ghost use Rattle.plain_device.specs.Sweeping.{ends_of_unmarked, entry_at, is_marked, marked};
 
+use crate::books::Books;
 use crate::marks::{is_marked, mark_flights, spread};
 use crate::objects::{Array, Object};
 use crate::reaches::Reach;
@@ -180,4 +183,22 @@ pub fn sweep<C: Client>(
     let (marks, others) = marks.split_at_mut(handles);
     mark_live(stage, held, reached, marks, others);
     take_unmarked(stage, marks, client);
+}
+
+/// Takes away the objects that do not live by these books. Takes no memory.
+pub fn sweep_by<C: Client>(stage: &mut Stage, books: &mut Books, client: &mut C)
+    requires marks { length books.old.marks.items ≡ 2 * (stage.old.next - 1) }
+    requires room { length stage.old.objects ≤ C.spare client.old }
+    ensures stage { stage.new ≡ swept_by books.old stage.old }
+    ensures books { IsMarked books.old books.new }
+    ensures told { C.notices client.new ≡ C.notices client.old ++ filter_map end_of_object (gone stage.old stage.new) }
+    ensures room { length stage.new.objects ≤ C.spare client.new }
+{
+    sweep(
+        stage,
+        &books.held,
+        &books.reached,
+        &mut books.marks,
+        client,
+    );
 }
