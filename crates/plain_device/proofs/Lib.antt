@@ -29,3 +29,4 @@ pub mod Values
 pub mod Walked
 pub mod WholeFacts
 pub mod WorldFacts
+pub mod StepFacts

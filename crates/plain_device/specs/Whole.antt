@@ -1,9 +1,11 @@
 -- What a record keeps in all its parts.
 use Rattle.std.specs.Prelude.{◌≡◌, ℕ, ◌+◌, ◌*◌, ◌≤◌, ◌++◌, ◌∷◌, [], cond, length, vec_capacity}
+use Rattle.std.specs.List.{filter_map}
 use Rattle.seq_model.specs.Histories.{is_making, is_releasing, is_retaining, rendered}
 use Rattle.seq_model.specs.Life.{is_root, live}
 use Rattle.seq_model.specs.State.{State, flights}
-use Rattle.seq_model.specs.Steps.{Past, change, is_reached, next_place, with_reach}
+use Rattle.seq_model.specs.Steps.{step, Past, change, is_reached, next_place, with_reach}
+use Rattle.seq_model.specs.Told.{end_of_object, gone, status_at, told_by}
 use Rattle.seq_model.specs.declared.calls.Entry.{Entry}
 use Rattle.plain_device.specs.Counts.{count_at}
 use Rattle.plain_device.specs.Kept.{IsKept, KnowsRenders}
@@ -39,3 +41,9 @@ pub record IsEntered (stage : State) (old : Books) (e : Entry) (new : Books) : T
   pub worlds : KnowsWorlds new.journal.items new.worlds
   pub marks : length new.marks.items ≡ 2 * length new.held.items
   pub room : length new.journal.items + length (flights (changed_in_past stage old e)) + 1 ≤ vec_capacity new.journal
+
+-- the objects and the books after an entry
+pub record IsStepped (stage : State) (old : Books) (e : Entry) (left : State) (new : Books) : Type 0 where
+  pub past : past_in left new ≡ step (past_in stage old) e
+  pub whole : IsWhole left new
+  pub told : status_at e ++ filter_map end_of_object (gone (changed_in_past stage old e) left) ≡ told_by (past_in stage old) e

@@ -1,0 +1,161 @@
+-- A call that is entered, and a note, step by step.
+use Rattle.std.proofs.Common.{◌≡◌, ◌∙◌, ◌≤◌, ◌<◌, ◌+◌, ◌-◌, ◌^◌, ℕ, true, List, ◌++◌, ◌∷◌, [], Option, Some, None, length, vec_capacity, refl, sym, ap, subst, arith}
+use Rattle.std.specs.List.{filter_map}
+use Rattle.std.specs.Option.{IsSomeAnd}
+use Rattle.std.proofs.lemmas.List.{length-append}
+use Rattle.seq_model.proofs.Handles.{IsRising, changed_rises, rises}
+use Rattle.seq_model.specs.Answers.{answer}
+use Rattle.seq_model.specs.Histories.{frame_at, rendered}
+use Rattle.seq_model.specs.Life.{is_root, live}
+use Rattle.seq_model.specs.Legal.{Legal, is_content_sound}
+use Rattle.seq_model.specs.Pictures.{scene_at}
+use Rattle.seq_model.specs.State.{State, flights}
+use Rattle.seq_model.specs.Steps.{is_reached, Past, after, change, effect, next_place, step, with_reach}
+use Rattle.seq_model.specs.Told.{end_of_object, gone, removed, status_at, told_by}
+use Rattle.seq_model.specs.declared.calls.Call.{Call}
+use Rattle.seq_model.specs.declared.calls.Call.TheVariants.{NewObject, NewArray, RenderFrame, Retain, UnmapParameterArray}
+use Rattle.seq_model.specs.declared.calls.Entry.{Entry}
+use Rattle.seq_model.specs.declared.calls.Entry.TheVariants.{Called}
+use Rattle.seq_model.specs.declared.calls.Reply.{Reply}
+use Rattle.seq_model.specs.declared.calls.Reply.TheVariants as reply
+use Rattle.picture_model.specs.Limits.{IsSceneWithin}
+use Rattle.plain_device.proofs.Entering.{effect_stops, few_flights, next_moves}
+use Rattle.plain_device.proofs.Legality.{called_is_legal}
+use Rattle.plain_device.proofs.RendersKept.{other_keeps_renders}
+use Rattle.plain_device.proofs.WholeFacts.{past_steps, whole_next}
+use Rattle.plain_device.specs.Booked.{IsCalled, IsMarked, IsSame}
+use Rattle.plain_device.specs.Counting.{handles_made}
+use Rattle.plain_device.specs.Counts.{count_at}
+use Rattle.plain_device.specs.Kept.{KnowsRenders, Shows, render_with}
+use Rattle.plain_device.specs.Open.{IsOpen, IsUnseen}
+use Rattle.plain_device.specs.Uses.{FitsWorld}
+use Rattle.plain_device.specs.Whole.{IsEntered, IsStepped, IsWhole, changed_in_past, past_in, swept_by}
+use Rattle.plain_device.specs.Worlds.{KnowsWorlds}
+use Rattle.plain_device.specs.declared.books.Books.{Books}
+use Rattle.plain_device.specs.declared.renders.Render.{Render}
+
+-- what is known of a device is unseen, and its renders are within the limits
+pub was_unseen : (stage : State) (old : Books) → IsWhole stage old → IsUnseen old.journal.items
+was_unseen stage old whole = record { legal = whole.kept.legal; unseen = whole.kept.unseen }
+
+pub scenes_within : (stage : State) (old : Books) → IsWhole stage old → (t f : ℕ) → frame_at old.journal.items t ≡ Some f → IsSceneWithin (scene_at old.journal.items t)
+scenes_within stage old whole t f found = by (render_with t old.renders.items) (whole.kept.shown.kept t f found)
+  where
+    by : (r : Option Render) → IsSomeAnd r (Shows old.journal.items t) → IsSceneWithin (scene_at old.journal.items t)
+    by None shows = absurd shows
+    by (Some r) shows = subst IsSceneWithin shows.scene shows.within
+
+-- other marks change nothing
+entered_marked : (stage : State) (old : Books) (e : Entry) (new final : Books) → IsEntered stage old e new → IsMarked new final → IsEntered stage old e final
+entered_marked stage old e new final entered marked = record {
+  journal = ap (λ j. j.items) marked.journal ∙ entered.journal;
+  reached = ap (λ rs. rs.items) marked.reached ∙ entered.reached;
+  counted = λ h. omega (arith, entered.counted h, ap (λ hs. count_at hs.items h) marked.held);
+  handles = ap (λ hs. length hs.items + 1) marked.held ∙ entered.handles;
+  renders = subst (λ j. KnowsRenders j final.renders.items) (sym (ap (λ j. j.items) marked.journal)) (subst (KnowsRenders new.journal.items) (sym (ap (λ rs. rs.items) marked.renders)) entered.renders);
+  worlds = subst (λ j. KnowsWorlds j final.worlds) (sym (ap (λ j. j.items) marked.journal)) (subst (KnowsWorlds new.journal.items) (sym marked.worlds) entered.worlds);
+  marks = omega (arith, marked.marks, entered.marks, ap (λ hs. length hs.items) marked.held);
+  room = omega (arith, entered.room, ap (λ j. length j.items) marked.journal, ap (λ j. vec_capacity j) marked.journal);
+}
+
+-- the objects and the books after an entry that is no close
+pub stepped : (stage : State) (old : Books) (e : Entry) (new final : Books) (left : State) → IsWhole stage old → IsEntered stage old e new → IsMarked new final →
+    IsUnseen (old.journal.items ++ e ∷ []) → left ≡ swept_by new (changed_in_past stage old e) →
+    (removed (past_in stage old) e ≡ gone (changed_in_past stage old e) (step (past_in stage old) e).state) → IsStepped stage old e left final
+unfolding told_by
+stepped stage old e new final left whole entered marked unseen is ends =
+    let done : IsEntered stage old e final = entered_marked stage old e new final entered marked in
+    let same : left ≡ swept_by final (changed_in_past stage old e) = is ∙ swept_alike in
+    let past : past_in left final ≡ step (past_in stage old) e =
+    ap (λ s. past_in s final) same ∙ past_steps stage old e final whole done unseen.legal in
+    record {
+      past = past;
+      whole = subst (λ s. IsWhole s final) (sym same) (whole_next stage old e final whole done unseen);
+      told = ap (λ gone. status_at e ++ filter_map end_of_object gone) (ap (λ p. gone (changed_in_past stage old e) p.state) past ∙ sym ends);
+    }
+  where
+    swept_alike : swept_by new (changed_in_past stage old e) ≡ swept_by final (changed_in_past stage old e)
+    swept_alike =
+        let s : State = changed_in_past stage old e in
+        ap (λ hs. record s { objects = live (is_root (count_at hs.items) (is_reached new.reached.items s)) s.objects }) (sym marked.held)
+        ∙ ap (λ rs. record s { objects = live (is_root (count_at final.held.items) (is_reached rs.items s)) s.objects }) (sym marked.reached)
+
+-- a call that is no render comes with no world
+no_world : (s : State) (actor : ℕ) (c : Call) (r : Reply) → rendered (Called actor c r) ≡ None → FitsWorld s c r None []
+no_world s actor (RenderFrame f) reply.Done none = absurd cc
+no_world s actor (RenderFrame f) _ none = tt
+no_world s actor (Retain h) r none = tt
+no_world s actor _ r none = tt
+
+one_handle : (c : Call) (r : Reply) → handles_made c r ≤ 1
+one_handle (NewObject t subtype) (reply.Made h) = omega arith
+one_handle (NewObject t subtype) _ = omega arith
+one_handle (NewArray elem count stride origin bytes) (reply.Made h) = omega arith
+one_handle (NewArray elem count stride origin bytes) _ = omega arith
+one_handle (UnmapParameterArray h name number bytes) (reply.Made made) = omega arith
+one_handle (UnmapParameterArray h name number bytes) _ = omega arith
+one_handle (Retain h) r = omega arith
+one_handle _ r = omega arith
+
+-- the room that a call owes
+called_room : (stage : State) (old : Books) (actor : ℕ) (c : Call) (r : Reply) (new : Books) (capacity : ℕ) → IsWhole stage old → Legal (old.journal.items ++ Called actor c r ∷ []) →
+    length new.journal.items ≡ length old.journal.items + 1 → length old.journal.items + (stage.next + length stage.stopped + 3) ≤ capacity →
+    length new.journal.items + length (flights (changed_in_past stage old (Called actor c r))) + 1 ≤ capacity
+unfolding change
+called_room stage old actor c r new capacity whole legal one room =
+    let past : Past = past_in stage old in
+    let changed : State = effect (next_place past) c r stage in
+    let rising : IsRising stage = subst (λ (p : Past). IsRising p.state) (sym whole.kept.led) (rises old.journal.items) in
+    let rises_on : IsRising changed = (changed_rises past (Called actor c r) rising).0 in
+    let next : changed.next ≡ stage.next + handles_made c r = next_of in
+    omega (arith, few_flights changed rises_on, effect_stops (next_place past) c r stage, next, one_handle c r, one, room)
+  where
+    next_of : (effect (next_place (past_in stage old)) c r stage).next ≡ stage.next + handles_made c r
+    next_of =
+        let P : Past → Type 0 = λ p. (change (next_place p) (Called actor c r) p.state).next ≡ p.state.next + handles_made c r in
+        subst P (sym whole.kept.led) (next_moves old.journal.items actor c r legal)
+
+same_reach : (place : ℕ) (x : Option ℕ) (s : State) (reached : List (ℕ × List ℕ)) → x ≡ None → with_reach place x s reached ≡ reached
+unfolding with_reach
+same_reach place x s reached none = ap (λ x. with_reach place x s reached) none
+
+-- the books with a call that renders nothing
+pub call_entered : (stage : State) (old room new : Books) (actor : ℕ) (c : Call) (r : Reply) → IsWhole stage old → IsSame old room → IsCalled actor c r room new →
+    Legal (old.journal.items ++ Called actor c r ∷ []) → rendered (Called actor c r) ≡ None → length old.journal.items < 2 ^ 64 - 1 →
+    length old.journal.items + (stage.next + length stage.stopped + 3) ≤ vec_capacity room.journal → IsEntered stage old (Called actor c r) new
+call_entered stage old room new actor c r whole same called legal none short space =
+    let e : Entry = Called actor c r in
+    let journal : new.journal.items ≡ old.journal.items ++ e ∷ [] = called.journal ∙ ap (λ j. j ++ e ∷ []) same.journal in
+    let renders : new.renders.items ≡ old.renders.items = called.renders ∙ same.renders in
+    let one : length new.journal.items ≡ length old.journal.items + 1 = ap length journal ∙ length-append old.journal.items (e ∷ []) in
+    record {
+      journal = journal;
+      reached = called.reached ∙ same.reached ∙ sym (same_reach (next_place (past_in stage old)) (rendered e) stage old.reached.items none);
+      counted = λ h. omega (arith, called.moved h, ap (λ hs. count_at hs h) same.held);
+      handles = omega (arith, called.handles, ap length same.held, whole.kept.handles, next_of);
+      renders = subst (λ j. KnowsRenders j new.renders.items) (sym journal) (subst (KnowsRenders (old.journal.items ++ e ∷ [])) (sym renders) (other_keeps_renders old.journal.items e old.renders.items none whole.kept.shown));
+      worlds = subst (λ j. KnowsWorlds j new.worlds) (sym journal)
+          (called.worlds old.journal.items short (no_world (after old.journal.items).state actor c r none) (same.worlds old.journal.items whole.worlds));
+      marks = omega (arith, called.marks, called.handles, ap length same.marks, ap length same.held, whole.marks);
+      room = called_room_of one;
+    }
+  where
+    next_of : (changed_in_past stage old (Called actor c r)).next ≡ stage.next + handles_made c r
+    next_of =
+        let P : Past → Type 0 = λ p. (change (next_place p) (Called actor c r) p.state).next ≡ p.state.next + handles_made c r in
+        subst P (sym whole.kept.led) (next_moves old.journal.items actor c r legal)
+
+    called_room_of : length new.journal.items ≡ length old.journal.items + 1 → length new.journal.items + length (flights (changed_in_past stage old (Called actor c r))) + 1 ≤ vec_capacity new.journal
+    called_room_of one = called_room stage old actor c r new (vec_capacity new.journal) whole legal one (omega (arith, space, called.space))
+
+-- a call that renders nothing, entered and swept
+pub call_stepped : (stage : State) (old room new final : Books) (actor : ℕ) (c : Call) (r : Reply) (mid left : State) → IsWhole stage old → IsOpen old.journal.items →
+    answer (past_in stage old) c ≡ Some r → is_content_sound (past_in stage old) c ≡ true → rendered (Called actor c r) ≡ None → IsSame old room → IsCalled actor c r room new → IsMarked new final →
+    length old.journal.items < 2 ^ 64 - 1 → length old.journal.items + (stage.next + length stage.stopped + 3) ≤ vec_capacity room.journal →
+    mid ≡ effect (length old.journal.items + 1) c r stage → left ≡ swept_by new mid → IsStepped stage old (Called actor c r) left final
+unfolding change
+call_stepped stage old room new final actor c r mid left whole open_ answered sound none same called marked short space changed is =
+    let unseen : IsUnseen (old.journal.items ++ Called actor c r ∷ []) =
+    called_is_legal (past_in stage old) whole.kept.led (was_unseen stage old whole) open_ (scenes_within stage old whole) actor c r answered sound in
+    stepped stage old (Called actor c r) new final left whole
+    (call_entered stage old room new actor c r whole same called unseen.legal none short space) marked unseen (is ∙ ap (swept_by new) changed) refl
