@@ -1,38 +1,44 @@
 -- A call that is entered, and a note, step by step.
-use Rattle.std.proofs.Common.{◌≡◌, ◌∙◌, ◌≤◌, ◌<◌, ◌+◌, ◌-◌, ◌^◌, ℕ, true, List, ◌++◌, ◌∷◌, [], Option, Some, None, length, vec_capacity, refl, sym, ap, subst, arith}
+use Rattle.std.proofs.Common.{cond, Bool, true, false, ◌≡◌, ◌∙◌, ◌≤◌, ◌<◌, ◌+◌, ◌-◌, ◌^◌, ℕ, true, List, ◌++◌, ◌∷◌, [], Option, Some, None, length, vec_capacity, refl, sym, ap, subst, arith}
 use Rattle.std.specs.List.{filter_map}
-use Rattle.std.specs.Option.{IsSomeAnd}
+use Rattle.std.specs.Option.{IsSomeAnd, option_and_then, option_map}
 use Rattle.std.proofs.lemmas.List.{length-append}
 use Rattle.seq_model.proofs.Handles.{IsRising, changed_rises, rises}
 use Rattle.seq_model.specs.Answers.{answer}
-use Rattle.seq_model.specs.Histories.{frame_at, rendered}
-use Rattle.seq_model.specs.Life.{is_root, live}
-use Rattle.seq_model.specs.Legal.{Legal, is_content_sound}
+use Rattle.seq_model.specs.Histories.{frame_at, rendered, is_making, is_releasing, is_retaining}
+use Rattle.seq_model.specs.Life.{is_root, live, has}
+use Rattle.seq_model.specs.Legal.{Legal, is_content_sound, is_flying}
 use Rattle.seq_model.specs.Pictures.{scene_at}
-use Rattle.seq_model.specs.State.{State, flights}
-use Rattle.seq_model.specs.Steps.{is_reached, Past, after, change, effect, next_place, step, with_reach}
+use Rattle.seq_model.specs.State.{State, flights, scene_objects}
+use Rattle.seq_model.specs.Steps.{is_reached, Past, after, change, effect, next_place, step, with_reach, end_flights}
 use Rattle.seq_model.specs.Told.{end_of_object, gone, removed, status_at, told_by}
 use Rattle.seq_model.specs.declared.calls.Call.{Call}
 use Rattle.seq_model.specs.declared.calls.Call.TheVariants.{NewObject, NewArray, RenderFrame, Retain, UnmapParameterArray}
 use Rattle.seq_model.specs.declared.calls.Entry.{Entry}
-use Rattle.seq_model.specs.declared.calls.Entry.TheVariants.{Called}
+use Rattle.seq_model.specs.declared.calls.Entry.TheVariants.{Called, Finished, Left}
 use Rattle.seq_model.specs.declared.calls.Reply.{Reply}
 use Rattle.seq_model.specs.declared.calls.Reply.TheVariants as reply
 use Rattle.picture_model.specs.Limits.{IsSceneWithin}
 use Rattle.plain_device.proofs.Entering.{effect_stops, few_flights, next_moves}
 use Rattle.plain_device.proofs.Legality.{called_is_legal}
-use Rattle.plain_device.proofs.RendersKept.{other_keeps_renders}
+use Rattle.plain_device.proofs.RendersKept.{other_keeps_renders, rendered_is_known}
 use Rattle.plain_device.proofs.WholeFacts.{past_steps, whole_next}
-use Rattle.plain_device.specs.Booked.{IsCalled, IsMarked, IsSame}
+use Rattle.plain_device.specs.Booked.{IsCalled, IsMarked, IsSame, IsRendered, IsNoted}
 use Rattle.plain_device.specs.Counting.{handles_made}
 use Rattle.plain_device.specs.Counts.{count_at}
 use Rattle.plain_device.specs.Kept.{KnowsRenders, Shows, render_with}
 use Rattle.plain_device.specs.Open.{IsOpen, IsUnseen}
 use Rattle.plain_device.specs.Uses.{FitsWorld}
 use Rattle.plain_device.specs.Whole.{IsEntered, IsStepped, IsWhole, changed_in_past, past_in, swept_by}
-use Rattle.plain_device.specs.Worlds.{KnowsWorlds}
+use Rattle.plain_device.specs.Worlds.{KnowsWorlds, render_of, world_of}
 use Rattle.plain_device.specs.declared.books.Books.{Books}
 use Rattle.plain_device.specs.declared.renders.Render.{Render}
+use Rattle.kind_tables.specs.Scenes.{scene}
+use Rattle.seq_model.specs.Builds.{is_touching}
+use Rattle.plain_device.proofs.FlightFacts.{finished_frees, left_frees}
+use Rattle.plain_device.proofs.WorldFacts.{knows_still}
+use Rattle.plain_device.specs.Prepared.{AreAsked, reach_of, world_reach}
+use Rattle.plain_device.specs.declared.prepared.Prepared.{Prepared}
 
 -- what is known of a device is unseen, and its renders are within the limits
 pub was_unseen : (stage : State) (old : Books) → IsWhole stage old → IsUnseen old.journal.items
@@ -159,3 +165,112 @@ call_stepped stage old room new final actor c r mid left whole open_ answered so
     called_is_legal (past_in stage old) whole.kept.led (was_unseen stage old whole) open_ (scenes_within stage old whole) actor c r answered sound in
     stepped stage old (Called actor c r) new final left whole
     (call_entered stage old room new actor c r whole same called unseen.legal none short space) marked unseen (is ∙ ap (swept_by new) changed) refl
+
+-- what a render needs is what the state before it says
+pub record IsReady (s : State) (f : ℕ) (p : Prepared) : Type 0 where
+  pub reach : p.reach.items ≡ reach_of s f
+  pub scene : p.scene ≡ scene (scene_objects s) f
+  pub within : IsSceneWithin p.scene
+  pub channels : AreAsked s f p.channels
+  pub world : option_map (λ w. (w.0, w.1.items)) p.world ≡ world_reach s f
+
+with_one : (place f : ℕ) (s : State) (reached : List (ℕ × List ℕ)) → with_reach place (Some f) s reached ≡ reached ++ (place, reach_of s f) ∷ []
+unfolding with_reach
+with_one place f s reached = refl
+
+-- the books with a render that was done
+pub render_entered : (stage : State) (old room new : Books) (actor f : ℕ) (p : Prepared) → IsWhole stage old → IsSame old room → IsRendered actor f p room new → IsReady stage f p →
+    Legal (old.journal.items ++ render_of actor f ∷ []) → length old.journal.items < 2 ^ 64 - 1 →
+    length old.journal.items + (stage.next + length stage.stopped + 3) ≤ vec_capacity room.journal → IsEntered stage old (render_of actor f) new
+unfolding change effect
+render_entered stage old room new actor f p whole same done ready legal short space =
+    let e : Entry = render_of actor f in
+    let journal : new.journal.items ≡ old.journal.items ++ e ∷ [] = done.journal ∙ ap (λ j. j ++ e ∷ []) same.journal in
+    let place : length room.journal.items + 1 ≡ length old.journal.items + 1 = ap (λ j. length j + 1) same.journal in
+    let shown : Render = record { ticket = length room.journal.items + 1; scene = p.scene; channels = p.channels } in
+    let held : new.held.items ≡ old.held.items = done.held ∙ same.held in
+    let one : length new.journal.items ≡ length old.journal.items + 1 = ap length journal ∙ length-append old.journal.items (e ∷ []) in
+    record {
+      journal = journal;
+      reached =
+          done.reached ∙ ap (λ rs. rs ++ (length room.journal.items + 1, p.reach.items) ∷ []) same.reached
+          ∙ ap (λ n. old.reached.items ++ (n, p.reach.items) ∷ []) place ∙ ap (λ hs. old.reached.items ++ (length old.journal.items + 1, hs) ∷ []) ready.reach
+          ∙ sym (with_one (length old.journal.items + 1) f stage old.reached.items);
+      counted = λ h. omega (arith, ap (λ hs. count_at hs h) held);
+      handles = omega (arith, ap length held, whole.kept.handles);
+      renders = subst (λ j. KnowsRenders j new.renders.items) (sym journal)
+          (subst (KnowsRenders (old.journal.items ++ e ∷ [])) (sym (done.renders ∙ ap (λ rs. rs ++ shown ∷ []) same.renders))
+          (rendered_is_known (past_in stage old) actor f old.renders.items shown whole.kept.led whole.kept.shown place ready.scene ready.channels ready.within));
+      worlds = subst (λ j. KnowsWorlds j new.worlds) (sym journal)
+          (done.worlds old.journal.items short (subst (λ (q : Past). option_map (λ w. (w.0, w.1.items)) p.world ≡ world_reach q.state f) whole.kept.led ready.world) (same.worlds old.journal.items whole.worlds));
+      marks = omega (arith, ap length done.marks, ap length same.marks, ap length held, whole.marks);
+      room = called_room stage old actor (RenderFrame f) reply.Done new (vec_capacity new.journal) whole legal one (omega (arith, space, done.space));
+    }
+
+-- a render that was done, entered and swept
+pub render_stepped : (stage : State) (old room new final : Books) (actor f : ℕ) (p : Prepared) (mid left : State) → IsWhole stage old → IsOpen old.journal.items →
+    answer (past_in stage old) (RenderFrame f) ≡ Some reply.Done → IsReady stage f p → IsSame old room → IsRendered actor f p room new → IsMarked new final →
+    length old.journal.items < 2 ^ 64 - 1 → length old.journal.items + (stage.next + length stage.stopped + 3) ≤ vec_capacity room.journal →
+    mid ≡ effect (length old.journal.items + 1) (RenderFrame f) reply.Done stage → left ≡ swept_by new mid → IsStepped stage old (render_of actor f) left final
+unfolding change
+render_stepped stage old room new final actor f p mid left whole open_ answered ready same done marked short space changed is =
+    let unseen : IsUnseen (old.journal.items ++ render_of actor f ∷ []) =
+    called_is_legal (past_in stage old) whole.kept.led (was_unseen stage old whole) open_ (scenes_within stage old whole) actor (RenderFrame f) reply.Done answered refl in
+    stepped stage old (render_of actor f) new final left whole
+    (render_entered stage old room new actor f p whole same done ready unseen.legal short space) marked unseen (is ∙ ap (swept_by new) changed) refl
+
+-- an entry that is no call, makes, holds and renders nothing, touches nothing, and ends a flight
+pub record IsNote (stage : State) (old : Books) (e : Entry) : Type 0 where
+  pub rendered : rendered e ≡ None
+  pub touches : (objects : List ℕ) → is_touching objects e ≡ false
+  pub making : (h : ℕ) → is_making h e ≡ false
+  pub retaining : (h : ℕ) → is_retaining h e ≡ false
+  pub releasing : (h : ℕ) → is_releasing h e ≡ false
+  pub next : (changed_in_past stage old e).next ≡ stage.next
+  pub frees : length (flights (changed_in_past stage old e)) + 1 ≤ length (flights stage)
+
+no_count : (b : Bool) → b ≡ false → 0 + cond b 1 0 ≡ 0
+no_count true none = absurd cc
+no_count false none = refl
+
+-- the books with a note
+pub note_entered : (stage : State) (old new : Books) (e : Entry) → IsWhole stage old → IsNoted e old new → IsNote stage old e → IsEntered stage old e new
+note_entered stage old new e whole noted note =
+    let one : length new.journal.items ≡ length old.journal.items + 1 = ap length noted.journal ∙ length-append old.journal.items (e ∷ []) in
+    record {
+      journal = noted.journal;
+      reached = noted.reached ∙ sym (same_reach (next_place (past_in stage old)) (rendered e) stage old.reached.items note.rendered);
+      counted = λ h. omega (arith, ap (λ hs. count_at hs h) noted.held, no_count (is_making h e) (note.making h), no_count (is_retaining h e) (note.retaining h), no_count (is_releasing h e) (note.releasing h));
+      handles = omega (arith, ap length noted.held, whole.kept.handles, note.next);
+      renders = subst (λ j. KnowsRenders j new.renders.items) (sym noted.journal)
+          (subst (KnowsRenders (old.journal.items ++ e ∷ [])) (sym noted.renders) (other_keeps_renders old.journal.items e old.renders.items note.rendered whole.kept.shown));
+      worlds = subst (λ j. KnowsWorlds j new.worlds) (sym noted.journal)
+          (subst (KnowsWorlds (old.journal.items ++ e ∷ [])) (sym noted.worlds)
+          (knows_still old.journal.items e old.worlds (ap (option_and_then (world_of (after old.journal.items).state)) note.rendered) note.touches whole.worlds));
+      marks = omega (arith, ap length noted.marks, ap length noted.held, whole.marks);
+      room = omega (arith, one, note.frees, noted.space, whole.room);
+    }
+
+-- a note, entered and swept
+pub note_stepped : (stage : State) (old new final : Books) (e : Entry) (mid left : State) → IsWhole stage old → IsNoted e old new → IsNote stage old e → IsMarked new final →
+    IsUnseen (old.journal.items ++ e ∷ []) → mid ≡ changed_in_past stage old e → left ≡ swept_by new mid →
+    (removed (past_in stage old) e ≡ gone (changed_in_past stage old e) (step (past_in stage old) e).state) → IsStepped stage old e left final
+note_stepped stage old new final e mid left whole noted note marked unseen changed is ends =
+    stepped stage old e new final left whole (note_entered stage old new e whole noted note) marked unseen (is ∙ ap (swept_by new) changed) ends
+
+-- the two notes
+pub finish_is_note : (stage : State) (old : Books) (t : ℕ) → is_flying stage t ≡ true → IsNote stage old (Finished t)
+unfolding change end_flights
+finish_is_note stage old t flies = record {
+  rendered = refl; touches = λ objects. refl; making = λ h. refl; retaining = λ h. refl; releasing = λ h. refl;
+  next = refl;
+  frees = finished_frees (next_place (past_in stage old)) t stage flies;
+}
+
+pub leave_is_note : (stage : State) (old : Books) (t : ℕ) → has t (flights stage) ≡ true → IsNote stage old (Left t)
+unfolding change end_flights
+leave_is_note stage old t there = record {
+  rendered = refl; touches = λ objects. refl; making = λ h. refl; retaining = λ h. refl; releasing = λ h. refl;
+  next = refl;
+  frees = left_frees (next_place (past_in stage old)) t stage there;
+}
