@@ -1,6 +1,7 @@
 pub mod Adding
 pub mod Answered
 pub mod Bounded
+pub mod Cleaned
 pub mod Corners
 pub mod Ended
 pub mod Entries

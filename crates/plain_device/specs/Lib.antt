@@ -1,4 +1,5 @@
 pub mod Bounding
+pub mod Cleaning
 pub mod Counts
 pub mod Kept
 pub mod Named

@@ -4,6 +4,7 @@
 pub mod answers;
 mod bounds;
 pub mod changes;
+pub mod contents;
 pub mod creations;
 pub mod elements;
 pub mod frames;
