@@ -68,7 +68,7 @@ fn clear(bytes: &mut Vec<u8>, start: usize) -> Result<(), AllocError>
     Ok(())
 }
 
-/// The object at the front of some bytes, of which there may be too few.
+/// The element at the front of some bytes, of which there may be too few.
 fn element_from(elem: DataType, rest: &[u8]) -> Value
     requires { is_object_type elem ≡ true }
     ensures { result ≡ value_of elem (take (byte_size elem) rest.now) }
@@ -76,7 +76,7 @@ fn element_from(elem: DataType, rest: &[u8]) -> Value
     Value::Object(elem, Handle(number_in(rest)))
 }
 
-/// The object that element `i` names, in bytes of which there may be too few.
+/// The object that element `i` names, in bytes of which there may be too few, and where the element begins.
 fn named_at(elem: DataType, stride: u64, bytes: &[u8], i: u64) -> Option<(Handle, usize)>
     requires { is_object_type elem ≡ true }
     ensures named { option_map (λ named. named.0) result ≡ object_in (element_of elem stride bytes.now i) }

@@ -1,9 +1,8 @@
-use Rattle.std.proofs.Common.{rules, ◌∙◌, ap}
+use Rattle.std.proofs.Common.{rules, ◌≡◌, ◌∙◌, ap}
 use Rattle.kind_tables.specs.SceneObjects.{Block}
 use Rattle.seq_model.specs.State.{with_bytes}
 use Rattle.plain_device.proofs.Cleaned.{all_cleaned, one_more}
 use Rattle.plain_device.specs.Cleaning.{cleaned_below}
-use Rattle.std.proofs.Common.{◌≡◌}
 use Rattle.plain_device.proofs.record.Record.cleaned.Goals as goal
 
 pub loop-i-preserved : goal.loop-i-preserved
