@@ -1,6 +1,7 @@
 pub mod Adding
 pub mod Answered
 pub mod Bounded
+pub mod Cleaned
 pub mod Closings
 pub mod Corners
 pub mod Ended
@@ -17,10 +18,11 @@ pub mod PublicCounts
 pub mod Removals
 pub mod RenderFacts
 pub mod RendersKept
-pub mod SeenTiles
 pub mod Rounds
 pub mod SceneLimits
+pub mod SeenTiles
 pub mod ShapeLimits
+pub mod StepFacts
 pub mod SuitFacts
 pub mod Turns
 pub mod Typed
@@ -29,4 +31,3 @@ pub mod Values
 pub mod Walked
 pub mod WholeFacts
 pub mod WorldFacts
-pub mod StepFacts

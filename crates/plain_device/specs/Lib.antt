@@ -1,5 +1,6 @@
 pub mod Booked
 pub mod Bounding
+pub mod Cleaning
 pub mod Counting
 pub mod Counts
 pub mod Endings

@@ -6,6 +6,7 @@ pub mod answers;
 mod bounds;
 pub mod changes;
 pub mod counting;
+pub mod contents;
 pub mod creations;
 pub mod elements;
 pub mod frames;
