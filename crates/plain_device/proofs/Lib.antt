@@ -31,3 +31,4 @@ pub mod Values
 pub mod Walked
 pub mod WholeFacts
 pub mod WorldFacts
+pub mod Beginnings

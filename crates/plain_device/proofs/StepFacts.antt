@@ -37,6 +37,7 @@ use Rattle.kind_tables.specs.Scenes.{scene}
 use Rattle.seq_model.specs.Builds.{is_touching}
 use Rattle.plain_device.proofs.FlightFacts.{finished_frees, left_frees}
 use Rattle.plain_device.proofs.WorldFacts.{knows_still}
+use Rattle.plain_device.specs.Ready.{IsReady}
 use Rattle.plain_device.specs.Prepared.{AreAsked, reach_of, world_reach}
 use Rattle.plain_device.specs.declared.prepared.Prepared.{Prepared}
 
@@ -165,14 +166,6 @@ call_stepped stage old room new final actor c r mid left whole open_ answered so
     called_is_legal (past_in stage old) whole.kept.led (was_unseen stage old whole) open_ (scenes_within stage old whole) actor c r answered sound in
     stepped stage old (Called actor c r) new final left whole
     (call_entered stage old room new actor c r whole same called unseen.legal none short space) marked unseen (is ∙ ap (swept_by new) changed) refl
-
--- what a render needs is what the state before it says
-pub record IsReady (s : State) (f : ℕ) (p : Prepared) : Type 0 where
-  pub reach : p.reach.items ≡ reach_of s f
-  pub scene : p.scene ≡ scene (scene_objects s) f
-  pub within : IsSceneWithin p.scene
-  pub channels : AreAsked s f p.channels
-  pub world : option_map (λ w. (w.0, w.1.items)) p.world ≡ world_reach s f
 
 with_one : (place f : ℕ) (s : State) (reached : List (ℕ × List ℕ)) → with_reach place (Some f) s reached ≡ reached ++ (place, reach_of s f) ∷ []
 unfolding with_reach

@@ -15,3 +15,4 @@ pub mod Sweeping
 pub mod Uses
 pub mod Whole
 pub mod Worlds
+pub mod Ready

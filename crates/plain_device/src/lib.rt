@@ -23,6 +23,7 @@ pub mod replies;
 pub mod scene_laws;
 pub mod scenes;
 pub mod stage;
+pub mod steps;
 pub mod sweeps;
 pub mod telling;
 #[cfg(test)]
