@@ -47,8 +47,13 @@ few_some f (x ∷ xs) = by (f x) (few_some f xs)
 -- no more flights than objects and stopped flights
 pub few_flights : (s : State) → IsRising s → length (flights s) + 1 ≤ s.next + length s.stopped
 few_flights s rising =
-    omega (arith, few_keys 1 s.next (keys_of s.objects) rising, length-map s.objects (λ (e : ℕ × Object). e.0), few_some (λ (entry : ℕ × Object). ticket_in entry.1.phase) s.objects,
-    length-append (filter_map (λ (entry : ℕ × Object). ticket_in entry.1.phase) s.objects) s.stopped)
+    omega (
+      arith,
+      few_keys 1 s.next (keys_of s.objects) rising,
+      length-map s.objects (λ (e : ℕ × Object). e.0),
+      few_some (λ (entry : ℕ × Object). ticket_in entry.1.phase) s.objects,
+      length-append (filter_map (λ (entry : ℕ × Object). ticket_in entry.1.phase) s.objects) s.stopped,
+    )
 
 -- a stopped flight is one more at the most, and no handle is made
 stop_next : (phase : Phase) (s : State) → (stop phase s).next ≡ s.next

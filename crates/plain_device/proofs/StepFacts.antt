@@ -1,16 +1,16 @@
 -- A call that is entered, and a note, step by step.
 use Rattle.std.proofs.Common.{◌*◌, cond, Bool, true, false, ◌≡◌, ◌∙◌, ◌≤◌, ◌<◌, ◌+◌, ◌-◌, ◌^◌, ℕ, true, List, ◌++◌, ◌∷◌, [], Option, Some, None, length, vec_capacity, refl, sym, ap, subst, arith}
 use Rattle.std.specs.List.{filter_map}
-use Rattle.std.specs.Option.{IsSomeAnd, option_and_then, option_map}
+use Rattle.std.specs.Option.{IsSomeAnd, option_and_then, option_map, option_or, unwrap_or}
 use Rattle.std.proofs.lemmas.List.{length-append, length-map}
 use Rattle.seq_model.proofs.Handles.{IsRising, changed_rises, rises}
-use Rattle.seq_model.specs.Answers.{answer}
+use Rattle.seq_model.specs.Answers.{answer, granted}
 use Rattle.seq_model.specs.Histories.{frame_at, rendered, is_making, is_releasing, is_retaining}
 use Rattle.seq_model.specs.Life.{is_root, live, has}
 use Rattle.seq_model.specs.Legal.{Legal, is_content_sound, is_flying}
 use Rattle.seq_model.specs.Pictures.{scene_at}
-use Rattle.seq_model.specs.State.{State, flights, Object}
-use Rattle.seq_model.specs.Steps.{is_reached, Past, after, change, effect, next_place, step, with_reach, end_flights}
+use Rattle.seq_model.specs.State.{State, flights, Object, Flight, changed_at}
+use Rattle.seq_model.specs.Steps.{is_reached, Past, after, change, effect, next_place, step, with_reach, end_flights, set_phase}
 use Rattle.seq_model.specs.Told.{end_of_object, gone, removed, status_at, told_by}
 use Rattle.seq_model.specs.declared.calls.Call.{Call}
 use Rattle.seq_model.specs.declared.calls.Call.TheVariants.{NewObject, NewArray, RenderFrame, Retain, UnmapParameterArray}
@@ -40,6 +40,9 @@ use Rattle.plain_device.specs.Ready.{IsReady}
 use Rattle.plain_device.specs.Prepared.{reach_of, world_reach}
 use Rattle.plain_device.specs.declared.prepared.Prepared.{Prepared}
 use Rattle.std.specs.Map.{keys_of}
+use Rattle.dev_types.specs.declared.refusals.Refused.{Refused}
+use Rattle.seq_model.specs.Refusals.{refusal}
+use Rattle.plain_device.specs.Endings.{reply_to}
 
 -- what is known of a device is unseen, and its renders are within the limits
 pub was_unseen : (stage : State) (old : Books) → IsWhole stage old → IsUnseen old.journal.items
@@ -255,7 +258,11 @@ note_stepped stage old new final e mid left whole noted note marked unseen chang
 pub finish_is_note : (stage : State) (old : Books) (t : ℕ) → is_flying stage t ≡ true → IsNote stage old (Finished t)
 unfolding change end_flights
 finish_is_note stage old t flies = record {
-  rendered = refl; touches = λ objects. refl; making = λ h. refl; retaining = λ h. refl; releasing = λ h. refl;
+  rendered = refl;
+  touches = λ objects. refl;
+  making = λ h. refl;
+  retaining = λ h. refl;
+  releasing = λ h. refl;
   next = refl;
   frees = finished_frees (next_place (past_in stage old)) t stage flies;
 }
@@ -263,7 +270,11 @@ finish_is_note stage old t flies = record {
 pub leave_is_note : (stage : State) (old : Books) (t : ℕ) → has t (flights stage) ≡ true → IsNote stage old (Left t)
 unfolding change end_flights
 leave_is_note stage old t there = record {
-  rendered = refl; touches = λ objects. refl; making = λ h. refl; retaining = λ h. refl; releasing = λ h. refl;
+  rendered = refl;
+  touches = λ objects. refl;
+  making = λ h. refl;
+  retaining = λ h. refl;
+  releasing = λ h. refl;
   next = refl;
   frees = left_frees (next_place (past_in stage old)) t stage there;
 }
@@ -273,7 +284,7 @@ few_objects : (s : State) → IsRising s → length s.objects + 1 ≤ s.next
 few_objects s rising = omega (arith, few_keys 1 s.next (keys_of s.objects) rising, length-map s.objects (λ (e : ℕ × Object). e.0))
 
 module _ (stage : State) (old : Books) (actor : ℕ) (c : Call) (r : Reply) (whole : IsWhole stage old) (open_ : IsOpen old.journal.items)
-  (answered : answer (past_in stage old) c ≡ Some r) (sound : is_content_sound (past_in stage old) c ≡ true) where
+    (answered : answer (past_in stage old) c ≡ Some r) (sound : is_content_sound (past_in stage old) c ≡ true) where
   legal_with : IsUnseen (old.journal.items ++ Called actor c r ∷ [])
   legal_with = called_is_legal (past_in stage old) whole.kept.led (was_unseen stage old whole) open_ (scenes_within stage old whole) actor c r answered sound
 
@@ -308,3 +319,31 @@ pub call_told : (stage mid left : State) (old final : Books) (actor : ℕ) (c : 
     status_at (Called actor c r) ++ filter_map end_of_object (gone mid left) ≡ told_by (past_in stage old) (Called actor c r)
 unfolding change
 call_told stage mid left old final actor c r is done = ap (λ s. status_at (Called actor c r) ++ filter_map end_of_object (gone s left)) is ∙ done.told
+
+-- a render that was done is no refused one
+pub render_is_granted : (past : Past) (f : ℕ) → answer past (RenderFrame f) ≡ Some reply.Done → refusal past (RenderFrame f) ≡ None
+unfolding answer
+render_is_granted past f answered = by (refusal past (RenderFrame f)) answered
+  where
+    by : (x : Option Refused) → option_or (option_map reply.Denied x) (granted past (RenderFrame f)) ≡ Some reply.Done → x ≡ None
+    by None is = refl
+    by (Some refused) is = absurd cc
+
+pub rendered_is : (actor f : ℕ) (c : Call) (r : Reply) → rendered (Called actor c r) ≡ Some f → (c ≡ RenderFrame f) × (r ≡ reply.Done)
+rendered_is actor f (RenderFrame h) reply.Done is = let same : h ≡ f = cc in (ap RenderFrame same, refl)
+rendered_is actor f (RenderFrame h) _ is = absurd cc
+rendered_is actor f (Retain h) r is = absurd cc
+rendered_is actor f _ r is = absurd cc
+
+-- two marks for each handle, where a render was entered
+pub render_marks : (stage : State) (old room new : Books) (actor f : ℕ) (p : Prepared) → IsWhole stage old → IsSame old room → IsRendered actor f p room new → length new.marks.items ≡ 2 * (stage.next - 1)
+render_marks stage old room new actor f p whole same done = omega (arith, ap length done.marks, ap length same.marks, whole.marks, whole.kept.handles)
+
+-- a frame that shows its flight, and the entry of a render
+pub show_is_effect : (place n h : ℕ) (s mid : State) → mid ≡ changed_at h (set_phase (Flight place)) s → place ≡ n → mid ≡ effect n (RenderFrame h) reply.Done s
+unfolding effect
+show_is_effect place n h s mid is same = is ∙ ap (λ p. changed_at h (set_phase (Flight p)) s) same
+
+pub render_entry : (past : Past) (actor f : ℕ) (c : Call) (r : Reply) → answer past c ≡ Some r → (c ≡ RenderFrame f) × (r ≡ reply.Done) → render_of actor f ≡ Called actor c (reply_to past c)
+render_entry past actor f c r answered is =
+    ap (λ c. Called actor c reply.Done) (sym is.0) ∙ ap (Called actor c) (sym (ap (λ x. unwrap_or x reply.Done) answered ∙ is.1))

@@ -84,7 +84,8 @@ impl Books {
         count(&mut self.held, &call, &reply);
         mark_made(&mut self.marks, self.held.len() - handles);
         note_world(&mut self.worlds, &call, &reply, None, Vec::new(alloc));
-        self.journal.push_reserved(Entry::Called { actor, call, reply });
+        self.journal
+            .push_reserved(Entry::Called { actor, call, reply });
     }
 
     /// Enters a render that was done. Takes no memory.

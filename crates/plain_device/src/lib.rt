@@ -1,12 +1,12 @@
 // The sequential device over plain lists.
 #![tactic(auto)]
 
-pub mod books;
 pub mod answers;
+pub mod books;
 mod bounds;
 pub mod changes;
-pub mod counting;
 pub mod contents;
+pub mod counting;
 pub mod creations;
 pub mod elements;
 pub mod frames;

@@ -194,11 +194,5 @@ pub fn sweep_by<C: Client>(stage: &mut Stage, books: &mut Books, client: &mut C)
     ensures told { C.notices client.new ≡ C.notices client.old ++ filter_map end_of_object (gone stage.old stage.new) }
     ensures room { length stage.new.objects ≤ C.spare client.new }
 {
-    sweep(
-        stage,
-        &books.held,
-        &books.reached,
-        &mut books.marks,
-        client,
-    );
+    sweep(stage, &books.held, &books.reached, &mut books.marks, client);
 }
