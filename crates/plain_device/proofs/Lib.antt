@@ -13,6 +13,7 @@ pub mod LastUses
 pub mod Legality
 pub mod NamedFacts
 pub mod Places
+pub mod NoteFacts
 pub mod PreparedFacts
 pub mod PublicCounts
 pub mod Removals

@@ -12,6 +12,7 @@ pub mod elements;
 pub mod frames;
 pub mod loans;
 mod marks;
+pub mod notes;
 pub mod objects;
 pub mod prepared;
 pub mod queries;
