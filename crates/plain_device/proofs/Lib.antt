@@ -4,6 +4,7 @@ pub mod Bounded
 pub mod Cleaned
 pub mod Closings
 pub mod Corners
+pub mod EndFacts
 pub mod Ended
 pub mod Entering
 pub mod Entries

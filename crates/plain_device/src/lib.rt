@@ -9,6 +9,7 @@ pub mod counting;
 pub mod contents;
 pub mod creations;
 pub mod elements;
+pub mod endings;
 pub mod frames;
 pub mod loans;
 mod marks;
