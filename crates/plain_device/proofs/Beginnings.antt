@@ -1,6 +1,6 @@
 -- A device to which nothing happened.
 use Rattle.std.proofs.Common.{◌≡◌, ◌∙◌, ◌≤◌, ◌<◌, ◌+◌, ℕ, zero, suc, All, List, [], Some, length, vec_capacity, refl, sym, ap, subst, arith}
-use Rattle.std.proofs.lemmas.List.{All-nil}
+use Rattle.std.proofs.lemmas.List.Elements.{All-nil}
 use Rattle.seq_model.proofs.Afters.{frame_within}
 use Rattle.seq_model.specs.Extensions.{readings_from, readings_of}
 use Rattle.seq_model.specs.Histories.{frame_at, public}
@@ -24,7 +24,7 @@ nothing_is_legal = tt
 
 nothing_is_read : All (λ r. r.1 ≡ 0) (readings_of [])
 unfolding readings_of readings_from
-nothing_is_read = All-nil
+nothing_is_read = All-nil _
 
 nothing_is_counted : (h : ℕ) → count_at [] h ≡ public [] h
 unfolding public
@@ -34,7 +34,7 @@ nothing_is_counted (suc i) = refl
 nothing_is_rendered : KnowsRenders [] []
 nothing_is_rendered = record {
   kept = λ t f found. let within : (0 < t) × (t ≤ length []) = frame_within [] t f found in absurd (omega (arith, within.0, within.1));
-  happened = All-nil;
+  happened = All-nil _;
 }
 
 -- what is known of it

@@ -32,7 +32,7 @@ use Rattle.plain_device.specs.Counts.{count_at}
 use Rattle.seq_model.specs.declared.calls.Entry.{Entry}
 
 -- no more keys than there is room for between the ends
-few_keys : (low high : ℕ) (ks : List ℕ) → RisesWithin low high ks → length ks + low ≤ high
+pub few_keys : (low high : ℕ) (ks : List ℕ) → RisesWithin low high ks → length ks + low ≤ high
 few_keys low high [] rising = omega (arith, rising)
 few_keys low high (k ∷ ks) rising = omega (arith, rising.0, few_keys (k + 1) high ks rising.1)
 

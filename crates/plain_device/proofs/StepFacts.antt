@@ -1,15 +1,15 @@
 -- A call that is entered, and a note, step by step.
-use Rattle.std.proofs.Common.{cond, Bool, true, false, ◌≡◌, ◌∙◌, ◌≤◌, ◌<◌, ◌+◌, ◌-◌, ◌^◌, ℕ, true, List, ◌++◌, ◌∷◌, [], Option, Some, None, length, vec_capacity, refl, sym, ap, subst, arith}
+use Rattle.std.proofs.Common.{◌*◌, cond, Bool, true, false, ◌≡◌, ◌∙◌, ◌≤◌, ◌<◌, ◌+◌, ◌-◌, ◌^◌, ℕ, true, List, ◌++◌, ◌∷◌, [], Option, Some, None, length, vec_capacity, refl, sym, ap, subst, arith}
 use Rattle.std.specs.List.{filter_map}
 use Rattle.std.specs.Option.{IsSomeAnd, option_and_then, option_map}
-use Rattle.std.proofs.lemmas.List.{length-append}
+use Rattle.std.proofs.lemmas.List.{length-append, length-map}
 use Rattle.seq_model.proofs.Handles.{IsRising, changed_rises, rises}
 use Rattle.seq_model.specs.Answers.{answer}
 use Rattle.seq_model.specs.Histories.{frame_at, rendered, is_making, is_releasing, is_retaining}
 use Rattle.seq_model.specs.Life.{is_root, live, has}
 use Rattle.seq_model.specs.Legal.{Legal, is_content_sound, is_flying}
 use Rattle.seq_model.specs.Pictures.{scene_at}
-use Rattle.seq_model.specs.State.{State, flights, scene_objects}
+use Rattle.seq_model.specs.State.{State, flights, Object}
 use Rattle.seq_model.specs.Steps.{is_reached, Past, after, change, effect, next_place, step, with_reach, end_flights}
 use Rattle.seq_model.specs.Told.{end_of_object, gone, removed, status_at, told_by}
 use Rattle.seq_model.specs.declared.calls.Call.{Call}
@@ -19,12 +19,12 @@ use Rattle.seq_model.specs.declared.calls.Entry.TheVariants.{Called, Finished, L
 use Rattle.seq_model.specs.declared.calls.Reply.{Reply}
 use Rattle.seq_model.specs.declared.calls.Reply.TheVariants as reply
 use Rattle.picture_model.specs.Limits.{IsSceneWithin}
-use Rattle.plain_device.proofs.Entering.{effect_stops, few_flights, next_moves}
+use Rattle.plain_device.proofs.Entering.{effect_stops, few_flights, next_moves, countable, few_keys}
 use Rattle.plain_device.proofs.Legality.{called_is_legal}
 use Rattle.plain_device.proofs.RendersKept.{other_keeps_renders, rendered_is_known}
 use Rattle.plain_device.proofs.WholeFacts.{past_steps, whole_next}
-use Rattle.plain_device.specs.Booked.{IsCalled, IsMarked, IsSame, IsRendered, IsNoted}
-use Rattle.plain_device.specs.Counting.{handles_made}
+use Rattle.plain_device.specs.Booked.{IsCalled, IsMarked, IsSame, IsRendered, IsNoted, HasSpace}
+use Rattle.plain_device.specs.Counting.{handles_made, IsCountable}
 use Rattle.plain_device.specs.Counts.{count_at}
 use Rattle.plain_device.specs.Kept.{KnowsRenders, Shows, render_with}
 use Rattle.plain_device.specs.Open.{IsOpen, IsUnseen}
@@ -33,13 +33,13 @@ use Rattle.plain_device.specs.Whole.{IsEntered, IsStepped, IsWhole, changed_in_p
 use Rattle.plain_device.specs.Worlds.{KnowsWorlds, render_of, world_of}
 use Rattle.plain_device.specs.declared.books.Books.{Books}
 use Rattle.plain_device.specs.declared.renders.Render.{Render}
-use Rattle.kind_tables.specs.Scenes.{scene}
 use Rattle.seq_model.specs.Builds.{is_touching}
 use Rattle.plain_device.proofs.FlightFacts.{finished_frees, left_frees}
 use Rattle.plain_device.proofs.WorldFacts.{knows_still}
 use Rattle.plain_device.specs.Ready.{IsReady}
-use Rattle.plain_device.specs.Prepared.{AreAsked, reach_of, world_reach}
+use Rattle.plain_device.specs.Prepared.{reach_of, world_reach}
 use Rattle.plain_device.specs.declared.prepared.Prepared.{Prepared}
+use Rattle.std.specs.Map.{keys_of}
 
 -- what is known of a device is unseen, and its renders are within the limits
 pub was_unseen : (stage : State) (old : Books) → IsWhole stage old → IsUnseen old.journal.items
@@ -267,3 +267,44 @@ leave_is_note stage old t there = record {
   next = refl;
   frees = left_frees (next_place (past_in stage old)) t stage there;
 }
+
+-- no more objects than handles
+few_objects : (s : State) → IsRising s → length s.objects + 1 ≤ s.next
+few_objects s rising = omega (arith, few_keys 1 s.next (keys_of s.objects) rising, length-map s.objects (λ (e : ℕ × Object). e.0))
+
+module _ (stage : State) (old : Books) (actor : ℕ) (c : Call) (r : Reply) (whole : IsWhole stage old) (open_ : IsOpen old.journal.items)
+  (answered : answer (past_in stage old) c ≡ Some r) (sound : is_content_sound (past_in stage old) c ≡ true) where
+  legal_with : IsUnseen (old.journal.items ++ Called actor c r ∷ [])
+  legal_with = called_is_legal (past_in stage old) whole.kept.led (was_unseen stage old whole) open_ (scenes_within stage old whole) actor c r answered sound
+
+  next_with : (effect (length old.journal.items + 1) c r stage).next ≡ stage.next + handles_made c r
+  unfolding change
+  next_with =
+      let P : Past → Type 0 = λ p. (change (next_place p) (Called actor c r) p.state).next ≡ p.state.next + handles_made c r in
+      subst P (sym whole.kept.led) (next_moves old.journal.items actor c r legal_with.legal)
+
+  -- what the books are asked before the call is entered
+  pub call_countable : (room : Books) → IsSame old room → HasSpace room → length old.journal.items < 2 ^ 64 - 1 → IsCountable room.held.items (vec_capacity room.held) c r
+  call_countable room same space short =
+      countable old.journal.items actor c r room.held.items (vec_capacity room.held) legal_with.legal
+      (λ h. ap (λ hs. count_at hs h) same.held ∙ whole.kept.counted h)
+      (ap (λ hs. length hs + 1) same.held ∙ whole.kept.handles ∙ ap (λ (p : Past). p.state.next) whole.kept.led) space.held short
+
+  -- no more objects than there were handles
+  pub call_fits : (mid : State) → mid ≡ effect (length old.journal.items + 1) c r stage → length mid.objects ≤ stage.next
+  unfolding change
+  call_fits mid is =
+      let rising : IsRising stage = subst (λ (p : Past). IsRising p.state) (sym whole.kept.led) (rises old.journal.items) in
+      let rises_on : IsRising (effect (length old.journal.items + 1) c r stage) = (changed_rises (past_in stage old) (Called actor c r) rising).0 in
+      omega (arith, ap (λ (s : State). length s.objects) is, few_objects (effect (length old.journal.items + 1) c r stage) rises_on, next_with, one_handle c r)
+
+  -- two marks for each handle
+  pub call_marks : (room new : Books) (mid : State) → IsSame old room → IsCalled actor c r room new → mid ≡ effect (length old.journal.items + 1) c r stage → length new.marks.items ≡ 2 * (mid.next - 1)
+  call_marks room new mid same called is =
+      omega (arith, called.marks, ap length same.marks, whole.marks, whole.kept.handles, ap (λ (s : State). s.next) is, next_with)
+
+-- what is told of a call
+pub call_told : (stage mid left : State) (old final : Books) (actor : ℕ) (c : Call) (r : Reply) → mid ≡ effect (length old.journal.items + 1) c r stage → IsStepped stage old (Called actor c r) left final →
+    status_at (Called actor c r) ++ filter_map end_of_object (gone mid left) ≡ told_by (past_in stage old) (Called actor c r)
+unfolding change
+call_told stage mid left old final actor c r is done = ap (λ s. status_at (Called actor c r) ++ filter_map end_of_object (gone s left)) is ∙ done.told

@@ -1,6 +1,7 @@
 //! One more entry of a record.
-ghost use Rattle.std.specs.Prelude.{◌≡◌, ◌+◌, ◌≤◌, ◌++◌, IfOk, IfErr, IsSome, OnErr, OnOk, Some, length, true};
+ghost use Rattle.std.specs.Prelude.{◌≡◌, ◌+◌, ◌≤◌, ◌++◌, IfOk, IfErr, IsSome, None, OnErr, OnOk, Some, length, true};
 ghost use Rattle.seq_model.specs.Answers.{answer};
+ghost use Rattle.seq_model.specs.Histories.{rendered};
 ghost use Rattle.seq_model.specs.Legal.{is_content_sound, is_flying};
 ghost use Rattle.seq_model.specs.Life.{has};
 ghost use Rattle.seq_model.specs.State.{flights};
@@ -58,5 +59,43 @@ impl Record {
         let mut books = Books::new(alloc);
         books.reserve(alloc, 1)?;
         Ok(Record { stage, books })
+    }
+    /// Enters a call that renders nothing, with its reply.
+    fn enter_call<C: Client>(
+        &mut self,
+        alloc: Global,
+        client: &mut C,
+        actor: u32,
+        call: Call,
+        reply: Reply,
+    ) -> Result<(), (NoMemory, Call)>
+        requires open { IsOpen self.old.seen }
+        requires answered { answer self.old call ≡ Some reply }
+        requires sound { is_content_sound self.old call ≡ true }
+        requires plain { rendered (Called actor call reply) ≡ None }
+        requires room { length self.old.state.objects ≤ C.spare client.old }
+        ensures entered { OnOk result (self.new ≡ step self.old (Called actor call reply)) }
+        ensures told { OnOk result (C.notices client.new ≡ C.notices client.old ++ told_by self.old (Called actor call reply)) }
+        ensures room { length self.new.state.objects ≤ C.spare client.new }
+        ensures err { OnErr result ((self.new ≡ self.old) × (C.notices client.new ≡ C.notices client.old)) }
+        ensures returned { IfErr result (λ e. e.1 ≡ call) }
+    {
+        let place = self.books.place();
+        let Ok(owed) = owed(&self.stage) else {
+            return Err((NoMemory, call));
+        };
+        let Ok(()) = self.books.reserve(alloc, owed) else {
+            return Err((NoMemory, call));
+        };
+        let Ok(()) = reserve_notices(alloc, &self.stage, client) else {
+            return Err((NoMemory, call));
+        };
+        let Ok(()) = self.stage.change(alloc, place, &call, &reply) else {
+            return Err((NoMemory, call));
+        };
+        tell_status(client, &call, &reply);
+        self.books.enter_call(alloc, actor, call, reply);
+        sweep_by(&mut self.stage, &mut self.books, client);
+        Ok(())
     }
 }
