@@ -4,6 +4,7 @@ pub mod Bounded
 pub mod Cleaned
 pub mod Closings
 pub mod Corners
+pub mod EndFacts
 pub mod Ended
 pub mod Entering
 pub mod Entries
@@ -13,6 +14,7 @@ pub mod LastUses
 pub mod Legality
 pub mod NamedFacts
 pub mod Places
+pub mod NoteFacts
 pub mod PreparedFacts
 pub mod PublicCounts
 pub mod Removals

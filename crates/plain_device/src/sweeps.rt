@@ -151,7 +151,7 @@ fn take_unmarked_at<C: Client>(stage: &mut Stage, marks: &[bool], h: Handle, cli
 }
 
 /// Takes the objects away that are not marked, and tells the client of their ends, by rising handle.
-fn take_unmarked<C: Client>(stage: &mut Stage, marks: &[bool], client: &mut C)
+pub(crate) fn take_unmarked<C: Client>(stage: &mut Stage, marks: &[bool], client: &mut C)
     requires { length stage.old.objects ≤ C.spare client.old }
     ensures stage { stage.new ≡ record stage.old { objects = marked marks.now stage.old.objects } }
     ensures told { C.notices client.new ≡ C.notices client.old ++ ends_of_unmarked marks.now stage.old.objects }
