@@ -1,0 +1,49 @@
+//! What the client is told of calls that are refused.
+ghost use Rattle.std.specs.Prelude.{◌≡◌, ◌<◌, ◌≤◌, ◌+◌, ◌++◌, ℕ};
+ghost use Rattle.seq_model.specs.Told.{source_of, status_at};
+ghost use Rattle.seq_model.specs.declared.calls.Entry.TheVariants.{Called};
+
+use dev_types::{Client, Handle};
+use seq_model::{Call, Reply};
+
+/// The object that a call is made on, and 0 where there is none.
+fn source_of(call: &Call) -> Handle
+    ensures { result ≡ source_of call.now }
+{
+    match call {
+        Call::Retain { h }
+        | Call::Release { h }
+        | Call::SetParameter { h, .. }
+        | Call::UnsetParameter { h, .. }
+        | Call::UnsetAll { h }
+        | Call::Commit { h }
+        | Call::MapArray { h }
+        | Call::UnmapArray { h, .. }
+        | Call::MapParameterArray { h, .. }
+        | Call::UnmapParameterArray { h, .. }
+        | Call::RenderFrame { h }
+        | Call::FrameReady { h, .. }
+        | Call::DiscardFrame { h }
+        | Call::MapFrame { h, .. }
+        | Call::UnmapFrame { h, .. }
+        | Call::GetProperty { h, .. } => *h,
+        Call::NewObject { .. }
+        | Call::NewArray { .. }
+        | Call::Subtypes { .. }
+        | Call::ObjectInfo { .. }
+        | Call::ParameterInfo { .. } => Handle(0),
+    }
+}
+
+/// Tells the client the status of a call that was refused.
+pub fn tell_status<C: Client>(client: &mut C, call: &Call, reply: &Reply)
+    requires { 0 < C.spare client.old }
+    ensures told { (actor : ℕ) → C.notices client.new ≡ C.notices client.old ++ status_at (Called actor call.now reply.now) }
+    ensures room { C.spare client.old ≤ C.spare client.new + 1 }
+{
+    if let Reply::Denied(refused) = reply {
+        if let Some(status) = refused.status(source_of(call)) {
+            client.status(status);
+        }
+    }
+}
