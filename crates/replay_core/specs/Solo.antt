@@ -3,8 +3,9 @@
 use Rattle.std.specs.Prelude.{ℕ, List, [], ◌∷◌, ◌++◌, Option, Some, None, fold, length, if◌then◌else◌}
 use Rattle.std.specs.List.{enumerate_from, filter, range_with_len}
 use Rattle.std.specs.Option.{option_map, option_map_or, option_to_list, unwrap_or}
-use Rattle.replay_core.specs.Labels.{Binding, Meaning, call_of, handle_of, label_of}
+use Rattle.replay_core.specs.Labels.{Meaning, call_of, handle_of, label_of}
 use Rattle.replay_core.specs.Loans.{opens, unmap_of}
+use Rattle.replay_core.specs.declared.bindings.Binding.{Binding}
 use Rattle.seq_model.specs.Answers.{answer}
 use Rattle.seq_model.specs.Contents.{entered}
 use Rattle.seq_model.specs.Histories.{History}
