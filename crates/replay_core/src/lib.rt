@@ -7,6 +7,7 @@ pub mod examples;
 pub mod given;
 pub mod notices;
 pub mod prints;
+pub mod writes;
 
 pub use bindings::{Binding, Labels};
 pub use notices::NoticeList;
