@@ -1,4 +1,9 @@
 pub mod Counts
+pub mod Endings
 pub mod Kept
 pub mod Named
+pub mod Open
 pub mod Shown
+pub mod Suits
+pub mod Sweeping
+pub mod Worlds

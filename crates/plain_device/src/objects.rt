@@ -1,6 +1,10 @@
 //! The objects of a device, as they are kept.
-ghost use Rattle.std.specs.Prelude.{◌==◌, filter, not, ◌≡◌, [], ◌∷◌, ◌++◌, ◌≤◌, ◌^◌, None, IfOk, OnOk, OnErr, length, option_copied};
+ghost use Rattle.std.specs.Prelude.{◌*◌, ◌==◌, IsTrue, filter, not, ◌≡◌, [], ◌∷◌, ◌++◌, ◌≤◌, ◌^◌, None, IfOk, OnOk, OnErr, length, option_copied};
 ghost use Rattle.dev_types.specs.Blocks.{FitsBlock};
+ghost use Rattle.dev_types.specs.DataTypes.{byte_size, is_element_type};
+ghost use Rattle.dev_types.specs.declared.data_types.DataType.TheVariants as ty;
+ghost use Rattle.dev_types.specs.declared.values.Value.TheVariants as Value;
+ghost use Rattle.seq_model.specs.Refusals.{most_bytes};
 ghost use Rattle.std.specs.Option.{is_some, option_map};
 ghost use Rattle.seq_model.specs.State.{array_loan, is_in_flight};
 ghost use Rattle.scene_read.specs.Reading.{IsCounted, lent as lent_block};
@@ -33,6 +37,8 @@ pub struct ParameterLoan {
     pub name: Name,
     pub elem: DataType,
     pub count: u64,
+    ghost element: { IsTrue (is_element_type elem) },
+    ghost bounded: { count * byte_size elem ≤ most_bytes },
 }
 
 impl Model for ParameterLoan {
@@ -237,6 +243,17 @@ impl Object {
         ensures { self.new ≡ end_parameter_loan number self.old }
     {
         drop_loan(&mut self.parameter_loans, number);
+    }
+
+    /// A loan for a parameter has come back: its new array, which has this handle, is the staged value of the
+    /// parameter, and the loan is out no more.
+    pub fn take_in(&mut self, name: &Name, number: u64, made: Handle) -> Result<(), NoMemory>
+        ensures ok { OnOk result (self.new ≡ set_staged (with_value name.now (Value.Object ty.Array1D made)) (end_parameter_loan number self.old)) }
+        ensures err { OnErr result (self.new ≡ self.old) }
+    {
+        self.set(name, &Value::Object(DataType::Array1D, made))?;
+        self.end_parameter_loan(number);
+        Ok(())
     }
 
     /// Shows something else.

@@ -1,12 +1,17 @@
 //! The objects of a device by their handles.
 ghost use Rattle.std.specs.Prelude.{◌==◌, not, ◌≡◌, ◌≤◌, ◌∷◌, ◌++◌, [], OnOk, OnErr, Some, length, map, option_copied};
+ghost use Rattle.std.specs.BTreeMap.{is_at};
 ghost use Rattle.std.specs.List.{filter};
+ghost use Rattle.std.specs.Map.{remove_entry};
 ghost use Rattle.std.specs.Option.{option_and_then, option_map, option_map_or};
+ghost use Rattle.std.specs.Ordering.{nat_cmp};
 ghost use Rattle.seq_model.specs.State.{scene_object, scene_objects, Empty, changed_at, empty, object_at, with_object};
-ghost use Rattle.seq_model.specs.Steps.{change_array, commit, discard, end_flights, end_parameter_loan, holding, lend_parameter, lent, map_channel, set_phase, set_staged, unmap_channel};
+ghost use Rattle.seq_model.specs.Steps.{change_array, commit, discard, end_flight, end_flights, end_parameter_loan, holding, lend_parameter, lent, map_channel, set_phase, set_staged, unmap_channel};
 ghost use Rattle.kind_tables.specs.SceneObjects.{object_at as scene_at, with_value, without_value};
+ghost use Rattle.dev_types.specs.declared.data_types.DataType.TheVariants as ty;
+ghost use Rattle.dev_types.specs.declared.values.Value.TheVariants as Value;
 ghost use Rattle.handle_table.specs.HandleMaps.{RiseWithin};
-ghost use Rattle.plain_device.specs.Shown.{HasLength, phase_of};
+ghost use Rattle.plain_device.specs.Shown.{HasLength, changed_in, phase_of};
 
 use crate::objects::{Object, ParameterLoan, Shows};
 use dev_types::{Bytes, Channel, Handle, Name, NoMemory, Value};
@@ -184,6 +189,25 @@ impl Stage {
         Ok(())
     }
 
+    /// A loan for a parameter has come back as this array, which stands under the next handle.
+    pub fn take_in(
+        &mut self,
+        alloc: Global,
+        h: Handle,
+        name: &Name,
+        number: u64,
+        array: Object,
+    ) -> Result<(), NoMemory>
+        ensures ok { OnOk result (self.new ≡ with_object array (changed_at h (set_staged (with_value name.now (Value.Object ty.Array1D self.old.next))) (changed_at h (end_parameter_loan number) self.old))) }
+        ensures err { OnErr result (self.new ≡ self.old) }
+    {
+        self.objects.reserve(alloc)?;
+        let made = self.next();
+        replace_loan(&mut self.objects, h, name, number, made)?;
+        self.objects.insert(array);
+        Ok(())
+    }
+
     /// What a frame has to show; nothing where there is no such object.
     pub fn shows(&self, h: Handle) -> Shows
         ensures { phase_of result ≡ option_map_or (λ o. o.phase) (object_at self.now h) Empty }
@@ -213,6 +237,33 @@ impl Stage {
     {
         drop_ticket(&mut self.stopped, ticket);
     }
+
+    /// Takes an object away; `None` exactly where there is no such object.
+    pub fn remove(&mut self, h: Handle) -> Option<Object>
+        ensures value { result ≡ object_at self.old h }
+        ensures stage { self.new ≡ record self.old { objects = remove_entry (is_at (nat_cmp h)) self.old.objects } }
+    {
+        self.objects.remove(h)
+    }
+
+    /// Ends the flight with this ticket: its frame shows something else.
+    pub fn end_flights(&mut self, ticket: u64, shows: Shows)
+        ensures { self.new ≡ end_flights ticket (phase_of shows) self.old }
+    {
+        let next = self.next();
+        for h in 1..next.0 {
+            self.end_flight(Handle(h), ticket, shows);
+        }
+    }
+
+    /// Ends the flight with this ticket, if its frame has this handle.
+    fn end_flight(&mut self, h: Handle, ticket: u64, shows: Shows)
+        ensures { self.new ≡ changed_at h (end_flight ticket (phase_of shows)) self.old }
+    {
+        if let Some(object) = self.objects.get_mut(h) {
+            object.end_flight(ticket, shows);
+        }
+    }
 }
 
 /// Takes a ticket away.
@@ -220,4 +271,24 @@ fn drop_ticket(tickets: &mut Vec<u64>, ticket: u64)
     ensures { tickets.new.items ≡ filter (λ u. not (u == ticket)) tickets.old.items }
 {
     tickets.retain(|stopped| *stopped != ticket);
+}
+
+/// A loan for a parameter has come back as the array with this handle.
+#[tactic(auto, using(crate::proofs::Entries::written_back))]
+fn replace_loan(
+    objects: &mut Table<Object>,
+    h: Handle,
+    name: &Name,
+    number: u64,
+    made: Handle,
+) -> Result<(), NoMemory>
+    ensures ok { OnOk result (objects.new ≡ changed_in h (λ o. set_staged (with_value name.now (Value.Object ty.Array1D made)) (end_parameter_loan number o)) objects.old) }
+    ensures spare { objects.new.spare ≡ objects.old.spare }
+    ensures next { objects.new.next ≡ objects.old.next }
+    ensures err { OnErr result (objects.new ≡ objects.old) }
+{
+    let Some(object) = objects.get_mut(h) else {
+        return Ok(());
+    };
+    object.take_in(name, number, made)
 }

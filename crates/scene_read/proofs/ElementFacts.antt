@@ -43,23 +43,31 @@ named_array : (objects : SceneObjects) (named : Option ℕ) →
 named_array objects None = refl
 named_array objects (Some g) = array_by objects (object_at objects g)
 
-pub array_read : (objects : SceneObjects) (h : ℕ) (o : SceneObject) (name : List ℕ) → object_at objects h ≡ Some o →
-    array_named objects o name ≡ option_map all_elements (array_in objects h name)
-array_read objects h o name e =
+-- the arrays of an object are those that its handle leads to
+abbrev pub ReadsArrays : SceneObjects → ℕ → SceneObject → Type 0
+ReadsArrays objects h o = (name : List ℕ) → array_named objects o name ≡ option_map all_elements (array_in objects h name)
+
+array_read : (objects : SceneObjects) (h : ℕ) (o : SceneObject) → object_at objects h ≡ Some o → ReadsArrays objects h o
+array_read objects h o e name =
     let P : Option SceneObject → Type 0 = λ found.
     array_named objects o name
     ≡ option_map all_elements (option_and_then (content_of objects) (option_and_then object_in (option_and_then (λ o. value_named name o.committed) found))) in
     subst P (sym e) (named_array objects (option_and_then object_in (value_named name o.committed)))
+
+pub array_seen : (objects : SceneObjects) (h : ℕ) → ReadsArrays objects h (visited_object objects h)
+array_seen objects h name =
+    ap (λ (array : Option SceneObject). option_map elements (option_and_then (λ array. array.block) array)) (named_read objects h name)
+    ∙ named_array objects (named_in objects h name)
 
 -- the positions, and how many
 positions_by : (content : Option Elements) → map (λ v. vector_in (Some v)) (unwrap_or (option_map all_elements content) []) ≡ vectors_in content
 positions_by None = refl
 positions_by (Some e) = refl
 
-pub positions_read : (objects : SceneObjects) (h : ℕ) (o : SceneObject) → object_at objects h ≡ Some o →
+pub positions_read : (objects : SceneObjects) (h : ℕ) (o : SceneObject) → ReadsArrays objects h o →
     positions_of objects o ≡ vectors_in (array_in objects h (codes "vertex.position"))
 positions_read objects h o e =
-    ap (λ content. map (λ v. vector_in (Some v)) (unwrap_or content [])) (array_read objects h o (codes "vertex.position") e)
+    ap (λ content. map (λ v. vector_in (Some v)) (unwrap_or content [])) (e (codes "vertex.position"))
     ∙ positions_by (array_in objects h (codes "vertex.position"))
 
 pub count_read : (content : Option Elements) → length (vectors_in content) ≡ count_in content
@@ -72,12 +80,12 @@ corners_read_by : (indices : Option Elements) (positions : Option Elements) →
 corners_read_by None positions = refl
 corners_read_by (Some e) positions = map-map (λ v. indices_in (Some v)) (element e) (range_with_len 0 e.count)
 
-pub corners_read : (objects : SceneObjects) (h : ℕ) (o : SceneObject) → object_at objects h ≡ Some o →
+pub corners_read : (objects : SceneObjects) (h : ℕ) (o : SceneObject) → ReadsArrays objects h o →
     corners_of objects o ≡
     map (corners_at (array_in objects h (codes "primitive.index")))
     (range_with_len 0 (triangle_count (array_in objects h (codes "primitive.index")) (array_in objects h (codes "vertex.position"))))
 corners_read objects h o e =
-    ap (λ indices. corners_by indices (length (positions_of objects o))) (array_read objects h o (codes "primitive.index") e)
+    ap (λ indices. corners_by indices (length (positions_of objects o))) (e (codes "primitive.index"))
     ∙ ap (corners_by (option_map all_elements (array_in objects h (codes "primitive.index")))) (ap length (positions_read objects h o e) ∙ count_read (array_in objects h (codes "vertex.position")))
     ∙ corners_read_by (array_in objects h (codes "primitive.index")) (array_in objects h (codes "vertex.position"))
 
@@ -109,8 +117,8 @@ triangles_by objects h m None e k = cc
 triangles_by objects h m (Some o) e k =
     let kind : o.kind ≡ GeometryTriangle = cc in
     ap (λ kind. shapes_by kind objects o m) kind
-    ∙ ap (λ positions. map (triangle m positions) (corners_of objects o)) (positions_read objects h o e)
-    ∙ ap (map (triangle m (vectors_in (array_in objects h (codes "vertex.position"))))) (corners_read objects h o e)
+    ∙ ap (λ positions. map (triangle m positions) (corners_of objects o)) (positions_read objects h o (array_read objects h o e))
+    ∙ ap (map (triangle m (vectors_in (array_in objects h (codes "vertex.position"))))) (corners_read objects h o (array_read objects h o e))
     ∙ map-map (triangle m (vectors_in (array_in objects h (codes "vertex.position")))) (corners_at (array_in objects h (codes "primitive.index")))
     (range_with_len 0 (triangle_count (array_in objects h (codes "primitive.index")) (array_in objects h (codes "vertex.position"))))
 
@@ -131,9 +139,9 @@ radii_by : (radii : Option Elements) → option_map (map (λ v. scalar_in (Some 
 radii_by None = refl
 radii_by (Some e) = refl
 
-pub radii_read : (objects : SceneObjects) (h : ℕ) (o : SceneObject) → object_at objects h ≡ Some o → own_radii objects o ≡ scalars_of_array (array_in objects h (codes "vertex.radius"))
+pub radii_read : (objects : SceneObjects) (h : ℕ) (o : SceneObject) → ReadsArrays objects h o → own_radii objects o ≡ scalars_of_array (array_in objects h (codes "vertex.radius"))
 radii_read objects h o e =
-    ap (option_map (map (λ v. scalar_in (Some v)))) (array_read objects h o (codes "vertex.radius") e) ∙ radii_by (array_in objects h (codes "vertex.radius"))
+    ap (option_map (map (λ v. scalar_in (Some v)))) (e (codes "vertex.radius")) ∙ radii_by (array_in objects h (codes "vertex.radius"))
 
 spheres_by : (objects : SceneObjects) (h : ℕ) (m : Mat34) (otherwise : SceneObject) (found : Option SceneObject) → object_at objects h ≡ found → option_map (λ o. o.kind) found ≡ Some GeometrySphere →
     option_map_or (λ o. shapes_of objects o m) found []
@@ -144,8 +152,8 @@ spheres_by objects h m otherwise None e k = cc
 spheres_by objects h m otherwise (Some o) e k =
     let kind : o.kind ≡ GeometrySphere = cc in
     ap (λ kind. shapes_by kind objects o m) kind
-    ∙ ap (λ positions. map (sphere m (own_radii objects o) (common_radius o)) (enumerate_from 0 positions)) (positions_read objects h o e)
-    ∙ ap (λ radii. map (sphere m radii (common_radius o)) (enumerate_from 0 (vectors_in (array_in objects h (codes "vertex.position"))))) (radii_read objects h o e)
+    ∙ ap (λ positions. map (sphere m (own_radii objects o) (common_radius o)) (enumerate_from 0 positions)) (positions_read objects h o (array_read objects h o e))
+    ∙ ap (λ radii. map (sphere m radii (common_radius o)) (enumerate_from 0 (vectors_in (array_in objects h (codes "vertex.position"))))) (radii_read objects h o (array_read objects h o e))
     ∙ spheres_of m (array_in objects h (codes "vertex.position")) (array_in objects h (codes "vertex.radius")) (common_radius o)
 
 pub spheres_read : (objects : SceneObjects) (h : ℕ) (m : Mat34) (otherwise : SceneObject) → option_map (λ o. o.kind) (object_at objects h) ≡ Some GeometrySphere →
@@ -199,25 +207,3 @@ corners_counted indices positions = length-map-range_with_len (corners_at indice
 
 pub corners_get : (indices positions : Option Elements) (k : ℕ) → k < triangle_count indices positions → get_or (corners_in indices positions) k [] ≡ corners_at indices k
 corners_get indices positions k l = get_or-map-range_with_len (corners_at indices) 0 (triangle_count indices positions) k k [] l (omega arith)
-
--- the arrays of a visited object
-pub array_seen : (objects : SceneObjects) (h : ℕ) (name : List ℕ) → array_named objects (visited_object objects h) name ≡ option_map all_elements (array_in objects h name)
-array_seen objects h name =
-    ap (λ (array : Option SceneObject). option_map elements (option_and_then (λ array. array.block) array)) (named_read objects h name)
-    ∙ named_array objects (named_in objects h name)
-
-pub positions_seen : (objects : SceneObjects) (h : ℕ) → positions_of objects (visited_object objects h) ≡ vectors_in (array_in objects h (codes "vertex.position"))
-positions_seen objects h =
-    ap (λ content. map (λ v. vector_in (Some v)) (unwrap_or content [])) (array_seen objects h (codes "vertex.position"))
-    ∙ positions_by (array_in objects h (codes "vertex.position"))
-
-pub corners_seen : (objects : SceneObjects) (h : ℕ) →
-    corners_of objects (visited_object objects h) ≡ corners_in (array_in objects h (codes "primitive.index")) (array_in objects h (codes "vertex.position"))
-corners_seen objects h =
-    ap (λ indices. corners_by indices (length (positions_of objects (visited_object objects h)))) (array_seen objects h (codes "primitive.index"))
-    ∙ ap (corners_by (option_map all_elements (array_in objects h (codes "primitive.index")))) (ap length (positions_seen objects h) ∙ count_read (array_in objects h (codes "vertex.position")))
-    ∙ corners_read_by (array_in objects h (codes "primitive.index")) (array_in objects h (codes "vertex.position"))
-
-pub radii_seen : (objects : SceneObjects) (h : ℕ) → own_radii objects (visited_object objects h) ≡ scalars_of_array (array_in objects h (codes "vertex.radius"))
-radii_seen objects h =
-    ap (option_map (map (λ v. scalar_in (Some v)))) (array_seen objects h (codes "vertex.radius")) ∙ radii_by (array_in objects h (codes "vertex.radius"))

@@ -10,7 +10,7 @@ use Rattle.kind_tables.specs.Ranges.{first_broken, geometry_tests, is_point, is_
 use Rattle.kind_tables.specs.SceneObjects.{SceneObjects}
 use Rattle.kind_tables.specs.Shapes.{common_radius, corners_of, own_radii}
 use Rattle.kind_tables.specs.declared.kinds.Kind.TheVariants.{GeometrySphere, GeometryTriangle}
-use Rattle.scene_read.proofs.ElementFacts.{corners_counted, corners_get, corners_seen, count_read, positions_seen, radii_seen}
+use Rattle.scene_read.proofs.ElementFacts.{array_seen, corners_counted, corners_get, corners_read, count_read, positions_read, radii_read}
 use Rattle.scene_read.proofs.TestFacts.{first_broken_of_from, joined_tests}
 use Rattle.scene_read.specs.Reading.{array_in}
 use Rattle.scene_read.specs.Shaped.{corners_at, corners_in, count_in, scalars_of_array, triangle_count, vectors_in}
@@ -33,8 +33,8 @@ pub triangle_tests_seen : (objects : SceneObjects) (h : ℕ) (m : Mat34) →
     ≡ flat_map (triangle_tests m (vectors_in (array_in objects h (codes "vertex.position"))))
     (corners_in (array_in objects h (codes "primitive.index")) (array_in objects h (codes "vertex.position")))
 triangle_tests_seen objects h m =
-    ap (λ positions. flat_map (triangle_tests m positions) (corners_of objects (visited_object objects h))) (positions_seen objects h)
-    ∙ ap (flat_map (triangle_tests m (vectors_in (array_in objects h (codes "vertex.position"))))) (corners_seen objects h)
+    ap (λ positions. flat_map (triangle_tests m positions) (corners_of objects (visited_object objects h))) (positions_read objects h (visited_object objects h) (array_seen objects h))
+    ∙ ap (flat_map (triangle_tests m (vectors_in (array_in objects h (codes "vertex.position"))))) (corners_read objects h (visited_object objects h) (array_seen objects h))
 
 -- the radii of spheres are one test
 one_test : (m : Mat34) (first : List ℕ × Bool) (radii : Option (List ℤ)) (common : ℤ) (count : ℕ) →
@@ -51,8 +51,8 @@ sphere_tests_seen objects h m =
     let positions = vectors_in (array_in objects h (codes "vertex.position")) in
     let radii = scalars_of_array (array_in objects h (codes "vertex.radius")) in
     let common = common_radius (visited_object objects h) in
-    ap (λ (ps : List Vec3). first_broken (centres ps ∷ radius_tests m (own_radii objects (visited_object objects h)) common (length ps))) (positions_seen objects h)
-    ∙ ap (λ rs. first_broken (centres positions ∷ radius_tests m rs common (length positions))) (radii_seen objects h)
+    ap (λ (ps : List Vec3). first_broken (centres ps ∷ radius_tests m (own_radii objects (visited_object objects h)) common (length ps))) (positions_read objects h (visited_object objects h) (array_seen objects h))
+    ∙ ap (λ rs. first_broken (centres positions ∷ radius_tests m rs common (length positions))) (radii_read objects h (visited_object objects h) (array_seen objects h))
     ∙ ap (λ n. first_broken (centres positions ∷ radius_tests m radii common n)) (count_read (array_in objects h (codes "vertex.position")))
     ∙ one_test m (centres positions) radii common (count_in (array_in objects h (codes "vertex.position")))
 

@@ -56,13 +56,9 @@ fn broken_triangle(
     ensures { result ≡ first_broken (triangle_tests m.now (vectors_in positions.now) (corners_at indices.now k)) }
 {
     let numbers = corners_at(indices, k)?;
-    first_broken(&[
-        (
-            "primitive.index",
-            are_numbers(&numbers, count_in(positions)),
-        ),
-        ("vertex.position", are_vertices(m, positions, &numbers)),
-    ])
+    let within = are_numbers(&numbers, count_in(positions));
+    let placed = are_vertices(m, positions, &numbers);
+    first_broken(&[("primitive.index", within), ("vertex.position", placed)])
 }
 
 /// What is out of range of the first triangle with such a value.

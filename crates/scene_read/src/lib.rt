@@ -12,6 +12,8 @@ pub mod scenes;
 #[cfg(test)]
 mod tests;
 #[cfg(test)]
+mod tests_refusals;
+#[cfg(test)]
 mod tests_store;
 pub mod visits;
 pub mod walks;

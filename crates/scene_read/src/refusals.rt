@@ -221,8 +221,8 @@ pub fn walk<O: Objects>(alloc: Global, state: &O, root: Handle) -> Result<Visits
     let Ok(visits) = visits_from(alloc, state, root) else {
         return Err(Refused::NoMemory);
     };
-    if let Some(refused) = first_mapped(state, &visits) {
-        return Err(refused);
+    if let Some(mapped) = first_mapped(state, &visits) {
+        return Err(mapped);
     }
     if let Some(refused) = fault(state, &visits) {
         return Err(refused);

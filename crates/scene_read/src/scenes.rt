@@ -1,5 +1,5 @@
 //! The scene of a frame, by what a walk visits.
-ghost use Rattle.std.specs.Prelude.{◌≡◌, ◌≤◌, ◌^◌, ◌++◌, IsTrue, ◌<◌, IfOk, OnOk, length, map, slice_index_or};
+ghost use Rattle.std.specs.Prelude.{All, IfSome, ◌≡◌, ◌≤◌, ◌^◌, ◌++◌, Some, IsTrue, ◌<◌, IfOk, OnOk, length, map, slice_index_or};
 ghost use Rattle.std.specs.List.{enumerate_from};
 ghost use Rattle.std.specs.Option.{option_to_list};
 ghost use Rattle.dev_types.specs.Bounded.{is_name};
@@ -7,6 +7,7 @@ ghost use Rattle.kind_tables.specs.SceneObjects.{sizes_in};
 ghost use Rattle.kind_tables.specs.Scenes.{camera_by, camera_of, light_at, lighting_of, lights_of, primitives_at, primitives_of, scene, scene_by, side_of, surface_primitives};
 ghost use Rattle.kind_tables.specs.Walks.{walk};
 ghost use Rattle.scene_read.specs.Reading.{object_of};
+ghost use Rattle.scene_read.specs.SceneReads.{HasSides, IsReadCamera, IsReadLight, IsReadScene, size_of_frame};
 ghost use Rattle.scene_read.specs.Shown.{finish_of, finished, live_in};
 ghost use Rattle.scene_read.specs.Starts.{all_seen, seen, starts_of, visited_object};
 
@@ -25,7 +26,8 @@ use std::alloc::{AllocError, Global};
 /// A visited light in world space, with its numbers as committed or by default; `None` for every other object. A position
 /// has no limit here.
 pub fn light<O: Objects>(state: &O, visit: &Visit) -> Option<LightRow>
-    ensures { result ≡ light_at (seen (O.objects state.now) visit.now) }
+    ensures value { result ≡ light_at (seen (O.objects state.now) visit.now) }
+    ensures read { IfSome result IsReadLight }
 {
     let subject = Subject::visited(visit.handle);
     match kind(state, &subject) {
@@ -48,7 +50,8 @@ pub fn light<O: Objects>(state: &O, visit: &Visit) -> Option<LightRow>
 
 /// The camera that is read, with its numbers as committed or by default.
 pub fn camera<O: Objects>(state: &O, subject: &Subject) -> CameraRow
-    ensures { result ≡ camera_by (object_of (O.objects state.now) subject.now).kind (object_of (O.objects state.now) subject.now) }
+    ensures value { result ≡ camera_by (object_of (O.objects state.now) subject.now).kind (object_of (O.objects state.now) subject.now) }
+    ensures read { IsReadCamera result }
 {
     let position = vector(state, subject, "position");
     let direction = vector(state, subject, "direction");
@@ -78,7 +81,8 @@ fn lights<O: Objects>(
     state: &O,
     visits: &[Visit],
 ) -> Result<Vec<LightRow>, AllocError>
-    ensures { IfOk result (λ lights. lights.items ≡ lights_of (all_seen (O.objects state.now) visits.now)) }
+    ensures value { IfOk result (λ lights. lights.items ≡ lights_of (all_seen (O.objects state.now) visits.now)) }
+    ensures read { IfOk result (λ lights. All IsReadLight lights.items) }
 {
     let mut lights = Vec::new(alloc);
     for visit in visits {
@@ -216,7 +220,8 @@ fn primitives<O: Objects>(
 /// Side `i` of a frame's size.
 fn side(size: &Option<Value>, i: usize) -> u32
     requires { i < 2 }
-    ensures { result ≡ slice_index_or (sizes_in size.now) i 0 }
+    ensures value { result ≡ slice_index_or (sizes_in size.now) i 0 }
+    ensures sides { HasSides size.now }
 {
     match size {
         Some(Value::Uint32Vec2(sides)) => sides[i],
@@ -228,6 +233,7 @@ fn side(size: &Option<Value>, i: usize) -> u32
 pub fn sides<O: Objects>(state: &O, frame: Handle) -> (u32, u32)
     ensures width { result.0 ≡ side_of (visited_object (O.objects state.now) frame) 0 }
     ensures height { result.1 ≡ side_of (visited_object (O.objects state.now) frame) 1 }
+    ensures sides { HasSides (size_of_frame (O.objects state.now) frame) }
 {
     let size = value(state, &Subject::visited(frame), &name_of("size"));
     (side(&size, 0), side(&size, 1))
@@ -240,7 +246,8 @@ fn lighting<O: Objects>(
     frame: Handle,
     visits: &[Visit],
 ) -> Result<Lighting, AllocError>
-    ensures { IfOk result (λ lighting. lighting ≡ lighting_of (O.objects state.now) (visited_object (O.objects state.now) frame) (all_seen (O.objects state.now) visits.now)) }
+    ensures value { IfOk result (λ lighting. lighting ≡ lighting_of (O.objects state.now) (visited_object (O.objects state.now) frame) (all_seen (O.objects state.now) visits.now)) }
+    ensures read { IfOk result (λ lighting. All IsReadLight lighting.lights) }
 {
     let lights = lights(alloc, state, visits)?;
     let renderer = Subject {
@@ -257,7 +264,8 @@ fn lighting<O: Objects>(
 
 /// The camera of a frame; without one, an orthographic camera that was given nothing.
 fn camera_of<O: Objects>(state: &O, frame: Handle) -> CameraRow
-    ensures { result ≡ camera_of (O.objects state.now) (visited_object (O.objects state.now) frame) }
+    ensures value { result ≡ camera_of (O.objects state.now) (visited_object (O.objects state.now) frame) }
+    ensures read { IsReadCamera result }
 {
     let subject = Subject {
         handle: named(state, frame, "camera"),
@@ -275,6 +283,7 @@ pub fn scene<O: Objects>(
     visits: &Visits,
 ) -> Result<Scene, NoMemory>
     ensures by_visits { IfOk result (λ scene. scene ≡ scene_by (O.objects state.now) (visited_object (O.objects state.now) frame) (all_seen (O.objects state.now) visits.now)) }
+    ensures read { IfOk result (λ made. IsReadScene (size_of_frame (O.objects state.now) frame) made) }
     ensures of_frame { visits.now ≡ starts_of (walk (O.objects state.now) frame) → IfOk result (λ made. made ≡ scene (O.objects state.now) frame) }
 {
     let visits = visits.as_slice();

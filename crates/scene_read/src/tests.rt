@@ -1,5 +1,5 @@
 // Walks and scenes over a small store of objects, with the rows of the documents.
-use crate::tests_store::{Store, array, bare};
+use crate::tests_store::{Object, Store, array, bare};
 use crate::{scene, visits_from};
 use dev_types::{DataType, Handle, Value};
 use fx_math::{CameraRow, LightRow, NO_ID, Place, Shape, Vec3};
@@ -9,12 +9,24 @@ use std::process::Abort;
 use std::test::Fail;
 
 /// A value that names an object.
-fn named(ty: DataType, h: u64) -> Value {
+pub fn named(ty: DataType, h: u64) -> Value {
     Value::Object(ty, Handle(h))
 }
 
-/// A frame of 4 by 4 with one red triangle.
-fn triangle(alloc: Global) -> Result<Store, Fail> {
+/// The triangle's frame, of a size.
+pub fn frame(alloc: Global, size: [u32; 2]) -> Result<Object, Fail> {
+    let mut frame = bare(alloc, Kind::FrameDefault);
+    frame.set("camera", named(DataType::Camera, 7))?;
+    frame.set("channel.color", Value::TypeName(DataType::Ufixed8Vec4))?;
+    frame.set("renderer", named(DataType::Renderer, 8))?;
+    frame.set("size", Value::Uint32Vec2(size))?;
+    frame.set("world", named(DataType::World, 6))?;
+    Ok(frame)
+}
+
+/// A frame of 4 by 4 with one red triangle: positions 1, geometry 2, material 3, surface 4 in array 5 of world 6, camera 7,
+/// renderer 8, frame 9.
+pub fn triangle(alloc: Global) -> Result<Store, Fail> {
     let mut store = Store::new(alloc);
     let corners = [
         Value::ScalarVec3([-131072, -131072, 0]),
@@ -44,13 +56,7 @@ fn triangle(alloc: Global) -> Result<Store, Fail> {
     camera.set("position", Value::ScalarVec3([0, 0, 65536]))?;
     store.add(7, camera)?;
     store.add(8, bare(alloc, Kind::RendererDefault))?;
-    let mut frame = bare(alloc, Kind::FrameDefault);
-    frame.set("camera", named(DataType::Camera, 7))?;
-    frame.set("channel.color", Value::TypeName(DataType::Ufixed8Vec4))?;
-    frame.set("renderer", named(DataType::Renderer, 8))?;
-    frame.set("size", Value::Uint32Vec2([4, 4]))?;
-    frame.set("world", named(DataType::World, 6))?;
-    store.add(9, frame)?;
+    store.add(9, frame(alloc, [4, 4])?)?;
     Ok(store)
 }
 

@@ -8,10 +8,10 @@ use Rattle.scene_read.proofs.ShownFacts.{named_read}
 use Rattle.scene_read.specs.Starts.{all_seen, visited_object}
 use Rattle.scene_read.proofs.scenes.lighting.Goals as goal
 
-pub returns : goal.returns
-returns g c =
+pub returns-clause-value : goal.returns-clause-value
+returns-clause-value g c =
     let renderer : option_and_then (object_at (g.O.Objects.objects c.args.state.now)) c.named.result
     ≡ object_named (g.O.Objects.objects c.args.state.now) (visited_object (g.O.Objects.objects c.args.state.now) c.args.frame) (codes "renderer") =
     ap (option_and_then (object_at (g.O.Objects.objects c.args.state.now))) c.named.ensures ∙ sym (named_read (g.O.Objects.objects c.args.state.now) c.args.frame (codes "renderer")) in
-    rw (c.new.ensures, c.in_ok-lights.ensures, to_z-of_z w32 c.scalar.result (search rules), c.color.ensures, c.color-2.ensures, c.scalar.ensures)
+    rw (c.new.ensures, c.in_ok-lights.ensures.value, to_z-of_z w32 c.scalar.result (search rules), c.color.ensures, c.color-2.ensures, c.scalar.ensures)
     (ap (λ (o : Option SceneObject). lighting_by (lights_of (all_seen (g.O.Objects.objects c.args.state.now) c.args.visits.now)) (unwrap_or o (nothing_of RendererDefault))) renderer)

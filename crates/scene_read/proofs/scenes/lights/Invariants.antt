@@ -1,8 +1,10 @@
-use Rattle.std.proofs.Common.{◌≡◌, take}
+use Rattle.std.proofs.Common.{◌≡◌, All, take}
 use Rattle.std.specs.List.{filter_map}
 use Rattle.kind_tables.specs.Scenes.{light_at}
+use Rattle.scene_read.specs.SceneReads.{IsReadLight}
 use Rattle.scene_read.specs.Starts.{all_seen}
 use Rattle.scene_read.proofs.scenes.lights.Given as goal
 
 abbrev pub invariant-loop-visit : goal.invariant-loop-visit
-invariant-loop-visit g l = l.lights.items ≡ filter_map light_at (all_seen (g.O.Objects.objects l.state) (take l.visit-index l.visits))
+invariant-loop-visit g l =
+    (l.lights.items ≡ filter_map light_at (all_seen (g.O.Objects.objects l.state) (take l.visit-index l.visits))) × All IsReadLight l.lights.items

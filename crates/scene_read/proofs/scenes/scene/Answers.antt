@@ -7,7 +7,7 @@ use Rattle.scene_read.proofs.scenes.scene.Goals as goal
 pub returns-clause-by_visits : goal.returns-clause-by_visits
 unfolding scene_by
 returns-clause-by_visits g c =
-    rw (c.new.ensures, c.in_ok-primitives.ensures, c.camera_of.ensures, c.in_ok-lighting.ensures, c.as_slice-visits.ensures, c.sides-width.ensures.width, c.sides-width.ensures.height) refl
+    rw (c.new.ensures, c.in_ok-primitives.ensures, c.camera_of.ensures.value, c.in_ok-lighting.ensures.value, c.as_slice-visits.ensures, c.sides-width.ensures.width, c.sides-width.ensures.height) refl
 
 pub returns-clause-of_frame : goal.returns-clause-of_frame
 unfolding scene
