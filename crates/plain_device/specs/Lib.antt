@@ -7,3 +7,4 @@ pub mod Shown
 pub mod Suits
 pub mod Sweeping
 pub mod Worlds
+pub mod Views

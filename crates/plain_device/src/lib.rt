@@ -3,6 +3,7 @@
 
 pub mod changes;
 pub mod creations;
+pub mod device;
 pub mod elements;
 pub mod frames;
 pub mod loans;

@@ -5,8 +5,10 @@ pub mod bindings;
 pub mod calls;
 pub mod examples;
 pub mod given;
+pub mod loans;
 pub mod notices;
 pub mod prints;
+pub mod solo;
 pub mod writes;
 
 pub use bindings::{Binding, Labels};
