@@ -70,7 +70,7 @@ granted_answered past (ObjectInfo t subtype) still none = kind_answered (kind_of
 granted_answered past (ParameterInfo t subtype name) still none = info_answered (kind_of t subtype) name none.0
 granted_answered past _ still none = refl
 
-still_answered : (past : Past) (call : Call) → asked_flight past call ≡ None → IsSome (answer past call)
+pub still_answered : (past : Past) (call : Call) → asked_flight past call ≡ None → IsSome (answer past call)
 unfolding answer
 still_answered past call still = by (refusal past call) refl
   where
@@ -106,7 +106,7 @@ noted : (history : History) (t : Option ℕ) (h : ℕ) → ticket_in (phase_at (
 noted history None h is = is
 noted history (Some t) h is = lands history t h is
 
-nothing_asked : (history : History) (call : Call) → asked_flight (ready_for (after history) call) call ≡ None
+pub nothing_asked : (history : History) (call : Call) → asked_flight (ready_for (after history) call) call ≡ None
 nothing_asked history (FrameReady h wait) = noted history (ticket_in (phase_at (after history) h)) h refl
 nothing_asked history (MapFrame h c) = noted history (ticket_in (phase_at (after history) h)) h refl
 nothing_asked history (RenderFrame h) = noted history (ticket_in (phase_at (after history) h)) h refl

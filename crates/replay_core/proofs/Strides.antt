@@ -48,7 +48,7 @@ left_false : (a b : Bool) → (a || b) ≡ false → a ≡ false
 left_false false b none = refl
 left_false true b none = absurd cc
 
-not_less : (m n : ℕ) → nat_lt m n ≡ false → n ≤ m
+pub not_less : (m n : ℕ) → nat_lt m n ≡ false → n ≤ m
 not_less m n fails = by (cases_lt m n)
   where
     by : (m < n) ⊎ (n ≤ m) → n ≤ m

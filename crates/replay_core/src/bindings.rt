@@ -16,6 +16,7 @@ pub struct Binding {
 }
 
 /// What labels stand for to a caller in a phase: it knows what was bound in earlier phases, and what it bound itself.
+#[derive(Drop)]
 pub struct Labels<'a> {
     pub bound: &'a [Binding],
     pub phase: u64,
