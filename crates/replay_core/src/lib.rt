@@ -7,6 +7,8 @@ pub mod examples;
 pub mod given;
 pub mod notices;
 pub mod prints;
+#[cfg(test)]
+mod tests;
 pub mod writes;
 
 pub use bindings::{Binding, Labels};
