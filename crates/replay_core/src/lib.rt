@@ -8,9 +8,12 @@ pub mod given;
 pub mod loans;
 pub mod notices;
 pub mod prints;
-pub mod solo;
+pub mod replays;
+#[cfg(test)]
+mod tests;
 pub mod writes;
 
 pub use bindings::{Binding, Labels};
 pub use notices::NoticeList;
 pub use prints::Print;
+pub use replays::{Replayed, solo};
