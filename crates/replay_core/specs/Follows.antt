@@ -3,9 +3,10 @@
 use Rattle.std.specs.Prelude.{◌≡◌, ℕ, ◌+◌, Bool, true, false, List, [], ◌∷◌, ◌++◌, Option, Some, None, IsTrue, drop, map, slice_get, slice_set, if◌then◌else◌}
 use Rattle.std.specs.List.{last_or, list_all}
 use Rattle.std.specs.Option.{option_and_then, option_map_or}
-use Rattle.replay_core.specs.Labels.{Binding, Meaning, call_of, handle_of}
+use Rattle.replay_core.specs.Labels.{Meaning, call_of, handle_of}
 use Rattle.replay_core.specs.Loans.{opens, unmap_of}
 use Rattle.replay_core.specs.Solo.{binding_of}
+use Rattle.replay_core.specs.declared.bindings.Binding.{Binding}
 use Rattle.seq_model.specs.Contents.{entered}
 use Rattle.seq_model.specs.Histories.{History}
 use Rattle.seq_model.specs.Steps.{Past, start, step}

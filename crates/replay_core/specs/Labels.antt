@@ -10,6 +10,7 @@ use Rattle.dev_types.specs.declared.handles.Origin.{Origin}
 use Rattle.dev_types.specs.declared.handles.Origin.TheVariants.{Managed}
 use Rattle.dev_types.specs.declared.values.Value.{Value}
 use Rattle.dev_types.specs.declared.values.Value.TheVariants as value
+use Rattle.replay_core.specs.declared.bindings.Binding.{Binding}
 use Rattle.seq_model.specs.Refusals.{is_bad_layout}
 use Rattle.seq_model.specs.Steps.{zeros}
 use Rattle.seq_model.specs.declared.calls.Call.{Call}
@@ -23,13 +24,6 @@ use Rattle.trace_text.specs.declared.calls.SetValue.TheVariants.{Plain, Object}
 use Rattle.trace_text.specs.declared.calls.TraceCall.{TraceCall}
 use Rattle.trace_text.specs.declared.calls.TraceCall.TheVariants.{New, NewArray, Retain, Release, Set, Unset, UnsetAll, Commit, WithArray, WithParam, WithFrame, EndLoan, Render, Discard, Ready}
 use Rattle.trace_text.specs.declared.calls.TraceCall.TheVariants as op
-
--- a label with the object that its creation made, the phase and the caller of the creation
-pub record Binding : Type 0 where
-  pub label : List ℕ
-  pub handle : ℕ
-  pub phase : ℕ
-  pub caller : ℕ
 
 -- a caller knows what was bound in earlier phases, and what it bound itself
 abbrev pub is_known : ℕ → ℕ → Binding → Bool

@@ -1,14 +1,15 @@
 -- The loans of a replay: what is written into one where it is granted, and the unmap that ends it.
-use Rattle.std.specs.Prelude.{ℕ, ◌*◌, nat_lt, Bool, true, false, List, Option, Some, None, fold, if◌then◌else◌}
+use Rattle.std.specs.Prelude.{ℕ, ◌*◌, ◌≤◌, IsTrue, nat_lt, Bool, true, false, List, Option, Some, None, fold, if◌then◌else◌}
 use Rattle.std.specs.Option.{option_and_then, option_map, option_map_or}
 use Rattle.dev_types.specs.Blocks.{with_part}
-use Rattle.dev_types.specs.DataTypes.{byte_size, is_object_type}
+use Rattle.dev_types.specs.DataTypes.{byte_size, is_element_type, is_object_type}
 use Rattle.dev_types.specs.ValueBytes.{bytes_of}
 use Rattle.dev_types.specs.declared.data_types.DataType.{DataType}
 use Rattle.dev_types.specs.declared.values.Value.{Value}
 use Rattle.dev_types.specs.declared.values.Value.TheVariants as value
 use Rattle.kind_tables.specs.SceneObjects.{Block}
 use Rattle.replay_core.specs.Labels.{Meaning}
+use Rattle.seq_model.specs.Refusals.{most_bytes}
 use Rattle.seq_model.specs.State.{object_at, with_bytes}
 use Rattle.seq_model.specs.Steps.{Past, next_place, zeros}
 use Rattle.seq_model.specs.declared.calls.Call.{Call}
@@ -46,14 +47,35 @@ content_of past h = option_map (λ a. a.block) (option_and_then (λ o. o.array) 
 abbrev pub new_content : DataType → ℕ → Block
 new_content elem count = record { elem = elem; count = count; stride = byte_size elem; bytes = zeros (count * byte_size elem) }
 
--- the unmap that will end a loan, as it is handed in, with what was written into it, where the reply granted one
-abbrev pub unmap_of : Past → Meaning → TraceCall → Reply → Option Call
-unmap_of past meaning (WithArray array write) (reply.Lent number) =
-    option_map (λ b. call.UnmapArray (meaning array) number (written meaning write b).bytes) (content_of past (meaning array))
-unmap_of past meaning (WithParam object name elem count write) (reply.Lent number) =
+-- the content of the array that a call maps
+abbrev pub mapped_content : Past → Meaning → TraceCall → Option Block
+mapped_content past meaning (WithArray array _) = content_of past (meaning array)
+mapped_content past meaning _ = None
+
+-- the unmap that will end a loan, as it is handed in, with what was written into it, where the reply granted one: by the content that was mapped,
+-- and the place of the loan
+abbrev pub unmap_by : Option Block → ℕ → Meaning → TraceCall → Reply → Option Call
+unmap_by content place meaning (WithArray array write) (reply.Lent number) =
+    option_map (λ b. call.UnmapArray (meaning array) number (written meaning write b).bytes) content
+unmap_by content place meaning (WithParam object name elem count write) (reply.Lent number) =
     Some (call.UnmapParameterArray (meaning object) name number (written meaning write (new_content elem count)).bytes)
-unmap_of past meaning (WithFrame frame channel) (reply.Mapped _ _ _ _) = Some (call.UnmapFrame (meaning frame) (next_place past))
-unmap_of past meaning _ _ = None
+unmap_by content place meaning (WithFrame frame channel) (reply.Mapped _ _ _ _) = Some (call.UnmapFrame (meaning frame) place)
+unmap_by content place meaning _ _ = None
+
+abbrev pub unmap_of : Past → Meaning → TraceCall → Reply → Option Call
+unmap_of past meaning c r = unmap_by (mapped_content past meaning c) (next_place past) meaning c r
+
+-- the call ends a loan
+abbrev pub is_unmap : Call → Bool
+is_unmap (call.UnmapArray _ _ _) = true
+is_unmap (call.UnmapParameterArray _ _ _ _) = true
+is_unmap (call.UnmapFrame _ _) = true
+is_unmap _ = false
+
+-- an array that was granted for a parameter has elements of a type that arrays may have, and no more than arrays may have
+abbrev pub IsRoomy : TraceCall → Reply → Type 0
+IsRoomy (WithParam _ _ elem count _) (reply.Lent _) = IsTrue (is_element_type elem) × (count * byte_size elem ≤ most_bytes)
+IsRoomy _ _ = Unit {0}
 
 -- the call opens a loan
 abbrev pub opens : TraceCall → Bool

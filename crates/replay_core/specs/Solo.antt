@@ -1,21 +1,21 @@
 -- The history of a trace on one thread: phase after phase, the first caller that has a call left makes it, and a flight that is asked for is
 -- finished first.
-use Rattle.std.specs.Prelude.{ℕ, List, [], ◌∷◌, ◌++◌, Option, Some, None, fold, length, if◌then◌else◌}
-use Rattle.std.specs.List.{enumerate_from, filter, range_with_len}
-use Rattle.std.specs.Option.{option_map, option_map_or, option_to_list, unwrap_or}
-use Rattle.replay_core.specs.Labels.{Binding, Meaning, call_of, handle_of, label_of}
+use Rattle.std.specs.Prelude.{ℕ, Bool, true, false, List, [], ◌∷◌, ◌++◌, Option, Some, None, fold, if◌then◌else◌}
+use Rattle.std.specs.List.{enumerate_from}
+use Rattle.std.specs.Option.{option_map, option_map_or, option_to_list}
+use Rattle.plain_device.specs.Endings.{ended, reply_to}
+use Rattle.replay_core.specs.Labels.{Meaning, call_of, handle_of, label_of}
 use Rattle.replay_core.specs.Loans.{opens, unmap_of}
-use Rattle.seq_model.specs.Answers.{answer}
+use Rattle.replay_core.specs.declared.bindings.Binding.{Binding}
 use Rattle.seq_model.specs.Contents.{entered}
 use Rattle.seq_model.specs.Histories.{History}
-use Rattle.seq_model.specs.Life.{has}
 use Rattle.seq_model.specs.Refusals.{phase_at}
-use Rattle.seq_model.specs.State.{flights, ticket_in}
+use Rattle.seq_model.specs.State.{ticket_in}
 use Rattle.seq_model.specs.Steps.{Past, start, step}
 use Rattle.seq_model.specs.declared.calls.Call.{Call}
 use Rattle.seq_model.specs.declared.calls.Call.TheVariants.{DiscardFrame, FrameReady, MapFrame, RenderFrame}
 use Rattle.seq_model.specs.declared.calls.Entry.{Entry}
-use Rattle.seq_model.specs.declared.calls.Entry.TheVariants.{Called, Finished, Left, Closed}
+use Rattle.seq_model.specs.declared.calls.Entry.TheVariants.{Called, Finished, Left}
 use Rattle.seq_model.specs.declared.calls.Reply.{Reply}
 use Rattle.seq_model.specs.declared.calls.Reply.TheVariants as reply
 use Rattle.trace_text.specs.declared.calls.Caller.{Caller}
@@ -51,10 +51,6 @@ with_note note t past = option_map_or (λ ticket. step past (note ticket)) t pas
 abbrev pub ready_for : Past → Call → Past
 ready_for past call = with_note Finished (asked_flight past call) past
 
--- the reply to a call
-abbrev pub reply_to : Past → Call → Reply
-reply_to past call = unwrap_or (answer past call) reply.Done
-
 -- one call with its reply, and after it the note on a flight that it stopped
 abbrev pub with_call : ℕ → Call → Past → Past
 with_call caller call past =
@@ -66,6 +62,19 @@ binding_of phase caller c (reply.Made h) =
     option_to_list (option_map (λ label. record { label = label; handle = h; phase = phase; caller = caller }) (label_of c))
 binding_of phase caller c _ = []
 
+-- a reply that a call was done
+abbrev pub is_done : Option Reply → Bool
+is_done (Some reply.Done) = true
+is_done _ = false
+
+-- a replay with what the reply to a call of the trace gives: a binding, and the unmap of a loan
+abbrev pub with_reply : ℕ → ℕ → TraceCall → Option Call → Reply → Replay → Replay
+with_reply phase caller c unmap answered r = record {
+  past = r.past;
+  bound = r.bound ++ binding_of phase caller c answered;
+  loans = if opens c then unmap ∷ r.loans else r.loans;
+}
+
 -- the innermost loan is ended by its unmap, where it was granted
 abbrev pub unmapped : ℕ → Replay → List (Option Call) → Replay
 unmapped caller r [] = r
@@ -76,11 +85,7 @@ unmapped caller r (Some unmap ∷ loans) = record { past = with_call caller (ent
 abbrev pub made : ℕ → ℕ → TraceCall → Meaning → Call → Replay → Replay
 made phase caller c meaning call r =
     let past = ready_for r.past call in
-    record {
-      past = with_call caller call past;
-      bound = r.bound ++ binding_of phase caller c (reply_to past call);
-      loans = if opens c then unmap_of past meaning c (reply_to past call) ∷ r.loans else r.loans;
-    }
+    with_reply phase caller c (unmap_of past meaning c (reply_to past call)) (reply_to past call) (record r { past = with_call caller call past })
 
 -- one call of a trace
 unfoldable pub replayed : ℕ → ℕ → Replay → TraceCall → Replay
@@ -98,12 +103,6 @@ phase_replayed r phase = fold (caller_replayed phase.0) r (enumerate_from 0 phas
 
 abbrev pub trace_replayed : Trace → Replay
 trace_replayed trace = fold phase_replayed (record { past = start; bound = []; loans = [] }) (enumerate_from 0 trace.phases)
-
--- at the end each flight leaves, by rising ticket, and the device is closed
-abbrev pub ended : Past → Past
-ended past =
-    let open_flights = filter (λ t. has t (flights past.state)) (range_with_len 1 (length past.seen)) in
-    step (fold (λ p t. step p (Left t)) past open_flights) Closed
 
 -- the history of a trace on one thread
 unfoldable pub solo : Trace → History

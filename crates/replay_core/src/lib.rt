@@ -1,7 +1,19 @@
 //! Replays of traces: which histories follow a trace, and which one a single thread makes of it.
 #![tactic(auto)]
 
+pub mod bindings;
+pub mod calls;
 pub mod examples;
+pub mod given;
+pub mod loans;
+pub mod notices;
 pub mod prints;
+pub mod replays;
+#[cfg(test)]
+mod tests;
+pub mod writes;
 
+pub use bindings::{Binding, Labels};
+pub use notices::NoticeList;
 pub use prints::Print;
+pub use replays::{Replayed, solo};

@@ -1,0 +1,8 @@
+use Rattle.std.proofs.Common.{◌≡◌, drop, fold}
+use Rattle.std.specs.List.{enumerate_from}
+use Rattle.replay_core.specs.Solo.{caller_replayed}
+use Rattle.replay_core.proofs.replays.Replay.replay_callers.Given as goal
+
+-- what is left to replay makes the whole of it
+abbrev pub invariant-loop-i : goal.invariant-loop-i
+invariant-loop-i l = fold (caller_replayed l.phase) l.self (enumerate_from l.i (drop l.i l.callers)) ≡ fold (caller_replayed l.phase) l.fn.self (enumerate_from 0 l.callers)
