@@ -40,7 +40,8 @@ fn push_image(alloc: Global, entry: &Entry, out: &mut Vec<u8>) -> Result<(), NoM
             rows,
         },
         ..
-    } = entry else {
+    } = entry
+    else {
         return Ok(());
     };
     let frame = MappedBytes {

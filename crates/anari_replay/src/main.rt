@@ -5,6 +5,10 @@ mod fault;
 mod images;
 mod outcome;
 mod replay;
+#[cfg(test)]
+mod rows;
+#[cfg(test)]
+mod tests;
 mod words;
 
 use fault::Fault;

@@ -59,13 +59,7 @@ impl Outcome {
     }
 
     /// The outcome of a run that ended before it made a call.
-    #[tactic(auto, unfolding(
-        seq_model::specs::Builds::builds,
-        seq_model::specs::Legal::GoesOn,
-        seq_model::specs::Legal::Legal,
-        seq_model::specs::Told::told,
-        seq_model::specs::Told::told_from
-    ))]
+    #[tactic(auto, unfolding(seq_model::specs::Builds::builds, seq_model::specs::Legal::GoesOn, seq_model::specs::Legal::Legal, seq_model::specs::Told::told, seq_model::specs::Told::told_from))]
     pub fn without_replay(alloc: Global, why: Fault) -> Outcome
         ensures status { result.status ≡ status_of (Err why) }
         ensures fault { result.fault ≡ trace_fault_of (Err why) }

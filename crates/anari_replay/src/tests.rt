@@ -1,0 +1,156 @@
+//! What no clause says: that the images are the right ones, and that an answer other than want of
+//! memory comes where there is memory.
+
+use crate::outcome::Outcome;
+use crate::replay::run_plain;
+use crate::rows::TRIANGLE;
+use replay_io::{HostSource, MemorySink, MemorySource};
+use std::alloc::{AllocError, Global};
+use std::io::Read;
+use std::test::Fail;
+use trace_text::TraceFault;
+
+fn words_of(alloc: Global, given: &[&str]) -> Result<Vec<String>, AllocError> {
+    let mut words = Vec::new(alloc);
+    for word in given {
+        words.push(String::from_str(alloc, word)?)?;
+    }
+    Ok(words)
+}
+
+/// What `solo` comes to on these bytes, and the sink.
+pub fn solo(alloc: Global, bytes: &[u8]) -> Result<(Outcome, MemorySink), AllocError> {
+    let words = words_of(alloc, &["solo"])?;
+    let mut source = MemorySource::new(bytes.to_vec(alloc)?, Vec::new(alloc));
+    let mut sink = MemorySink::new(alloc, Vec::new(alloc));
+    let outcome = run_plain(alloc, words.as_slice(), &mut source, &mut sink);
+    Ok((outcome, sink))
+}
+
+fn at(rule: u8, phase: u32, caller: u32, call: u32) -> TraceFault {
+    TraceFault {
+        rule,
+        phase,
+        caller,
+        call,
+    }
+}
+
+#[test]
+fn what_is_no_trace_is_refused_by_its_first_rule(rt: HostRuntime) -> Result<(), Fail> {
+    let cases: [(&str, TraceFault); 10] = [
+        ("", at(2, 0, 0, 0)),
+        ("{\"trace\":1,", at(2, 0, 0, 0)),
+        ("[[[[", at(2, 0, 0, 0)),
+        ("{}", at(3, 0, 0, 0)),
+        ("{\"trace\":1,\"phases\":3}", at(3, 0, 0, 0)),
+        (r#"{"trace":1,"phases":[{"callers":[]}]}"#, at(5, 0, 0, 0)),
+        (
+            r#"{"trace":1,"phases":[{"callers":[[{"op":"paint"}]]}]}"#,
+            at(8, 0, 0, 0),
+        ),
+        (
+            r#"{"trace":1,"phases":[{"callers":[[{"op":"commit"}]]}]}"#,
+            at(9, 0, 0, 0),
+        ),
+        (
+            r#"{"trace":1,"phases":[{"callers":[[],[{"op":"commit","object":"a","x":0}]]}]}"#,
+            at(9, 0, 1, 0),
+        ),
+        (
+            r#"{"trace":1,"phases":[{"callers":[[{"op":"new","label":"a","type":"world"},{"op":"new","label":"a","type":"world"}]]}]}"#,
+            at(10, 0, 0, 1),
+        ),
+    ];
+    for (text, fault) in cases {
+        let (outcome, sink) = solo(rt.alloc(), text.as_bytes())?;
+        assert_eq!(rt; outcome.status, 6, "{text}");
+        assert_eq!(rt; outcome.fault, Some(fault), "{text}");
+        assert!(rt; outcome.history.is_empty() && outcome.told.is_empty());
+        assert!(rt; sink.written().is_empty());
+    }
+    Ok(())
+}
+
+#[test]
+fn what_happened_and_was_told_is_counted(rt: HostRuntime) -> Result<(), Fail> {
+    let (outcome, _) = solo(rt.alloc(), TRIANGLE.as_bytes())?;
+    assert_eq!(rt; outcome.status, 0);
+    assert_eq!(rt; outcome.history.len(), 33);
+    assert_eq!(rt; outcome.told.len(), 2);
+    assert_eq!(rt; outcome.builds, 1);
+    assert_eq!(rt; outcome.fault, None);
+    Ok(())
+}
+
+#[test]
+fn other_words_are_refused_and_nothing_is_read(rt: HostRuntime) -> Result<(), Fail> {
+    let cases: [&[&str]; 5] = [
+        &["paint"],
+        &["solo", "--print"],
+        &["solo", "solo"],
+        &["Solo"],
+        &[],
+    ];
+    for given in cases {
+        let words = words_of(rt.alloc(), given)?;
+        let mut source = MemorySource::new(b"abc".to_vec(rt.alloc())?, Vec::new(rt.alloc()));
+        let mut sink = MemorySink::new(rt.alloc(), Vec::new(rt.alloc()));
+        let outcome = run_plain(rt.alloc(), words.as_slice(), &mut source, &mut sink);
+        assert_eq!(rt; outcome.status, 2, "{given:?}");
+        assert_eq!(rt; source.left(), b"abc".as_slice());
+        assert!(rt; sink.written().is_empty());
+    }
+    Ok(())
+}
+
+#[test]
+fn failing_streams_give_their_status(rt: HostRuntime) -> Result<(), Fail> {
+    let words = words_of(rt.alloc(), &["solo"])?;
+    // The calls that fail of the source and of the sink, the status, and how much was written.
+    let cases: [(&[u64], &[u64], u8, usize); 6] = [
+        (&[1], &[], 4, 0),
+        (&[2], &[], 4, 0),
+        (&[2], &[1], 4, 0),
+        (&[], &[1], 5, 0),
+        (&[3], &[2], 0, 59),
+        (&[], &[], 0, 59),
+    ];
+    for (reads, writes, status, written) in cases {
+        let mut source = MemorySource::new(
+            TRIANGLE.as_bytes().to_vec(rt.alloc())?,
+            reads.to_vec(rt.alloc())?,
+        );
+        let mut sink = MemorySink::new(rt.alloc(), writes.to_vec(rt.alloc())?);
+        let outcome = run_plain(rt.alloc(), words.as_slice(), &mut source, &mut sink);
+        assert_eq!(rt; outcome.status, status, "reads {reads:?} writes {writes:?}");
+        assert_eq!(rt;
+            sink.written().len(),
+            written,
+            "reads {reads:?} writes {writes:?}"
+        );
+    }
+    Ok(())
+}
+
+/// A reader that gives one byte at a time.
+#[derive(Drop)]
+struct OneByteReader<'a>(&'a [u8]);
+
+impl Read for OneByteReader<'_> {
+    fn read(&mut self, buf: &mut [u8]) -> std::io::Result<usize> {
+        let room = buf.len().min(1);
+        self.0.read(&mut buf[..room])
+    }
+}
+
+#[test]
+fn a_trace_may_come_a_byte_at_a_time(rt: HostRuntime) -> Result<(), Fail> {
+    let words = words_of(rt.alloc(), &["solo"])?;
+    let mut source = HostSource::new(OneByteReader(TRIANGLE.as_bytes()));
+    let mut sink = MemorySink::new(rt.alloc(), Vec::new(rt.alloc()));
+    let outcome = run_plain(rt.alloc(), words.as_slice(), &mut source, &mut sink);
+    assert_eq!(rt; outcome.status, 0);
+    assert_eq!(rt; sink.written().len(), 59);
+    Ok(())
+}
