@@ -7,8 +7,7 @@ ghost use Rattle.seq_model.specs.Told.{told};
 ghost use Rattle.anari_replay.specs.Outcome.{status_of, trace_fault_of};
 
 use crate::fault::Fault;
-use replay_core::NoticeList;
-use replay_core::solo::Replayed;
+use replay_core::{NoticeList, Replayed};
 use seq_model::Journal;
 use std::alloc::Global;
 use trace_text::TraceFault;

@@ -18,7 +18,7 @@ use crate::fault::Fault;
 use crate::images::images_of;
 use crate::outcome::Outcome;
 use crate::words::are_solo;
-use replay_core::solo::{Replayed, solo};
+use replay_core::{Replayed, solo};
 use replay_io::{Sink, Source, read_up_to, write_all};
 use std::alloc::Global;
 use trace_text::read_trace;
