@@ -1,13 +1,14 @@
 -- Why a run ends early, and what each cause says.
-use Rattle.std.specs.Prelude.{◌≡◌, ⊤, List, ℕ, Option, Some, Bool}
+use Rattle.std.specs.Prelude.{⊤, List, ℕ, Option, Some, Bool}
 use Rattle.replay_io.specs.declared.streams.NotRead.{NotRead}
 use Rattle.replay_io.specs.declared.streams.NotRead.TheVariants.{Failed as read-failed, NoMemory as read-no-memory}
 use Rattle.replay_io.specs.declared.sink.NotWritten.{NotWritten}
 use Rattle.replay_io.specs.declared.sink.NotWritten.TheVariants.{Failed as write-failed, NoMemory as write-no-memory}
-use Rattle.anari_replay.specs.declared.fault.Rule.{Rule}
+use Rattle.trace_text.specs.declared.fault.TraceError.{TraceError}
+use Rattle.trace_text.specs.declared.fault.TraceError.TheVariants.{Broken, NoMemory as trace-no-memory}
 use Rattle.anari_replay.specs.declared.fault.Fault.{Fault}
 use Rattle.anari_replay.specs.declared.fault.Fault.TheVariants.{Words, Memory, Read, Write, Trace}
-use Rattle.anari_replay.specs.Input.{IsRefused, Breaks, at_start}
+use Rattle.anari_replay.specs.Input.{IsRefused}
 
 -- why a run ends whose source was not read
 abbrev pub read_fault : NotRead → Fault
@@ -19,26 +20,23 @@ abbrev pub write_fault : NotWritten → Fault
 write_fault write-failed = Write
 write_fault write-no-memory = Memory
 
--- a trace is refused where its bytes were read and break the rule that the fault tells
-abbrev pub IsRefusal : Option (List ℕ) → Option (List ℕ) → Bool → Fault → Type 0
-IsRefusal old new ended (Trace fault) = IsRefused old new ended (Some fault)
-IsRefusal old new ended Words = ⊤
-IsRefusal old new ended Memory = ⊤
-IsRefusal old new ended Read = ⊤
-IsRefusal old new ended Write = ⊤
+-- why a run ends whose trace was not read
+abbrev pub trace_fault : TraceError → Fault
+trace_fault (Broken fault) = Trace fault
+trace_fault trace-no-memory = Memory
 
--- bytes are not recognised for want of memory, or by the rule that they break
-abbrev pub IsCauseIn : List ℕ → Fault → Type 0
-IsCauseIn bytes Memory = ⊤
-IsCauseIn bytes (Trace fault) = (rule : Rule) × (fault ≡ at_start rule) × Breaks rule bytes
-IsCauseIn bytes Words = ⊥
-IsCauseIn bytes Read = ⊥
-IsCauseIn bytes Write = ⊥
+-- before anything is written, a run does not end by a write; by a trace it does where the bytes that were read break the rule that the fault tells
+abbrev pub IsCauseBefore : Option (List ℕ) → Option (List ℕ) → Bool → Fault → Type 0
+IsCauseBefore old new ended (Trace fault) = IsRefused old new ended (Some fault)
+IsCauseBefore old new ended Write = ⊥
+IsCauseBefore old new ended Words = ⊤
+IsCauseBefore old new ended Memory = ⊤
+IsCauseBefore old new ended Read = ⊤
 
--- the sink is as it was where the words or the trace are refused or a read failed
-abbrev pub IsSilent : {K : Type 0} → K → K → Fault → Type 0
-IsSilent old new Words = new ≡ old
-IsSilent old new Memory = ⊤
-IsSilent old new Read = new ≡ old
-IsSilent old new Write = ⊤
-IsSilent old new (Trace fault) = new ≡ old
+-- a replay that was made ends only by want of memory or by a write
+abbrev pub IsCauseAfter : Fault → Type 0
+IsCauseAfter Memory = ⊤
+IsCauseAfter Write = ⊤
+IsCauseAfter Words = ⊥
+IsCauseAfter Read = ⊥
+IsCauseAfter (Trace fault) = ⊥

@@ -3,6 +3,4 @@ pub mod Words
 pub mod Input
 pub mod Faults
 pub mod Outcome
-pub mod FreePlaces
-pub mod Scenes
-pub mod Drawn
+pub mod Images

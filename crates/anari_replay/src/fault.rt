@@ -1,43 +1,13 @@
 //! Why a run ends early, with the status and the line of each cause.
 ghost use Rattle.std.specs.Prelude.{◌≡◌};
-ghost use Rattle.anari_replay.specs.Input.{at_start};
-ghost use Rattle.anari_replay.specs.Faults.{read_fault, write_fault};
+ghost use Rattle.anari_replay.specs.Faults.{read_fault, trace_fault, write_fault};
 ghost use Rattle.anari_replay.specs.declared.fault.Fault.TheVariants.{Memory};
 
+use dev_types::NoMemory;
 use replay_io::{NotRead, NotWritten};
 use std::alloc::{AllocError, AllocFailed};
 use thiserror::Error;
-use trace_text::TraceFault;
-
-/// The rules that an input can break so far.
-#[derive(Clone, Copy, Debug, PartialEq, Eq)]
-pub enum Rule {
-    /// Rule 1: there are more than 67108864 bytes.
-    TooLong,
-    /// Rule 2: the bytes are not JSON.
-    NotJson,
-    /// Rule 11: the JSON is of a form that is not read yet.
-    NotReadYet,
-}
-
-impl Rule {
-    /// The fault of an input that breaks this rule as a whole.
-    pub fn at_start(self) -> TraceFault
-        ensures { result ≡ at_start self }
-    {
-        let rule = match self {
-            Rule::TooLong => 1,
-            Rule::NotJson => 2,
-            Rule::NotReadYet => 11,
-        };
-        TraceFault {
-            rule,
-            phase: 0,
-            caller: 0,
-            call: 0,
-        }
-    }
-}
+use trace_text::{TraceError, TraceFault};
 
 /// Why a run ended early. The text is its line on standard error.
 #[derive(Clone, Copy, Debug, PartialEq, Eq, Error)]
@@ -54,6 +24,14 @@ pub enum Fault {
     Trace(TraceFault),
 }
 
+impl From<NoMemory> for Fault {
+    ghost from_gives = { λ _ e. e ≡ Memory };
+
+    fn from(_: NoMemory) -> Self {
+        Fault::Memory
+    }
+}
+
 impl From<AllocError> for Fault {
     ghost from_gives = { λ _ e. e ≡ Memory };
 
@@ -67,6 +45,17 @@ impl<T: Drop> From<AllocFailed<T>> for Fault {
 
     fn from(_: AllocFailed<T>) -> Self {
         Fault::Memory
+    }
+}
+
+impl From<TraceError> for Fault {
+    ghost from_gives = { λ why e. e ≡ trace_fault why };
+
+    fn from(why: TraceError) -> Self {
+        match why {
+            TraceError::Broken(fault) => Fault::Trace(fault),
+            TraceError::NoMemory => Fault::Memory,
+        }
     }
 }
 

@@ -2,11 +2,11 @@
 #![tactic(auto)]
 
 mod fault;
-mod first_trace;
+mod images;
 mod outcome;
-mod recogniser;
 mod replay;
-mod scene;
+#[cfg(test)]
+mod rows;
 #[cfg(test)]
 mod tests;
 mod words;
@@ -26,7 +26,7 @@ fn main(rt: HostRuntime) -> io::Result<ExitCode> {
             let mut sink = HostSink::new(io::writer(&rt));
             run_plain(rt.alloc(), words.as_slice(), &mut source, &mut sink)
         }
-        Err(fault) => Outcome::of(rt.alloc(), Err(fault)),
+        Err(fault) => Outcome::without_replay(rt.alloc(), fault),
     };
     if let Some(fault) = outcome.complaint() {
         // The status tells it too, so a closed standard error changes nothing.

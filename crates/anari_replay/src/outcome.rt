@@ -1,102 +1,81 @@
 //! What a run comes to.
-ghost use Rattle.std.specs.Prelude.{◌≡◌, [], None};
+ghost use Rattle.std.specs.Prelude.{◌≡◌, [], Err};
+ghost use Rattle.replay_core.specs.Views.{notices_of};
+ghost use Rattle.seq_model.specs.Builds.{builds};
+ghost use Rattle.seq_model.specs.Legal.{Legal};
+ghost use Rattle.seq_model.specs.Told.{told};
 ghost use Rattle.anari_replay.specs.Outcome.{status_of, trace_fault_of};
 
 use crate::fault::Fault;
+use replay_core::{NoticeList, Replayed};
+use seq_model::Journal;
 use std::alloc::Global;
-use std::marker::Model;
 use trace_text::TraceFault;
-
-/// One call of a history, with its reply. No history is kept yet, so there is none.
-#[derive(Drop)]
-pub enum Entry {}
-
-/// One thing that a client is told. Nothing is told yet, so there is none.
-#[derive(Drop)]
-pub enum Notice {}
-
-/// The history of a run: its entries in order.
-#[derive(Drop)]
-pub struct Journal {
-    entries: Vec<Entry>,
-}
-
-impl Model for Journal {
-    ghost use Rattle.std.specs.Prelude.{List};
-    ghost use Rattle.anari_replay.specs.declared.outcome.Entry.{Entry};
-
-    ghost Value = { List Entry };
-
-    ghost view = { λ j. j.entries.items };
-}
-
-/// What a client was told, in order.
-#[derive(Drop)]
-pub struct NoticeList {
-    notices: Vec<Notice>,
-}
-
-impl Model for NoticeList {
-    ghost use Rattle.std.specs.Prelude.{List};
-    ghost use Rattle.anari_replay.specs.declared.outcome.Notice.{Notice};
-
-    ghost Value = { List Notice };
-
-    ghost view = { λ l. l.notices.items };
-}
-
-/// What a replay that was done counted.
-#[derive(Clone, Copy, Debug, PartialEq, Eq)]
-pub struct Replayed {
-    /// How many times a ray was tested against a triangle.
-    pub tests: u64,
-}
 
 /// What a run of the program comes to.
 #[derive(Drop)]
 pub struct Outcome {
     /// 0 done, 2 words refused, 3 out of memory, 4 read fault, 5 write fault, 6 trace refused.
     pub status: u8,
-    /// The calls that were made. Empty so far.
+    /// The calls that were made, each with its reply, and the notes of the device. With status 3 a
+    /// part of them. Empty where there was no replay.
     pub history: Journal,
-    /// What the client was told. Empty so far.
+    /// What the client was told.
     pub told: NoticeList,
-    /// How many worlds were prepared. 0 so far.
+    /// How many worlds were prepared.
     pub builds: u64,
     /// Why the trace was refused; there with status 6 alone.
     pub fault: Option<TraceFault>,
-    /// How many times a ray was tested against a triangle.
+    /// How many times a ray was tested against a primitive.
     pub tests: u64,
 }
 
 impl Outcome {
-    /// The outcome of a run that ended so.
-    pub fn of(alloc: Global, ended: Result<Replayed, Fault>) -> Outcome
-        ensures status { result.status ≡ status_of ended }
-        ensures fault { result.fault ≡ trace_fault_of ended }
-        ensures history { result.history ≡ [] }
-        ensures told { result.told ≡ [] }
+    /// The outcome of a replay whose images were written, or why they were not.
+    pub fn of(replayed: Replayed, written: Result<(), Fault>) -> Outcome
+        ensures status { result.status ≡ status_of written }
+        ensures fault { result.fault ≡ trace_fault_of written }
+        ensures history { result.history ≡ replayed.history }
+        ensures told { result.told ≡ replayed.told }
+        ensures builds { result.builds ≡ replayed.builds }
     {
-        let (status, fault, tests) = match ended {
-            Ok(replayed) => (0, None, replayed.tests),
-            Err(Fault::Words) => (2, None, 0),
-            Err(Fault::Memory) => (3, None, 0),
-            Err(Fault::Read) => (4, None, 0),
-            Err(Fault::Write) => (5, None, 0),
-            Err(Fault::Trace(fault)) => (6, Some(fault), 0),
+        let (status, fault) = match written {
+            Ok(()) => (0, None),
+            Err(Fault::Words) => (2, None),
+            Err(Fault::Memory) => (3, None),
+            Err(Fault::Read) => (4, None),
+            Err(Fault::Write) => (5, None),
+            Err(Fault::Trace(fault)) => (6, Some(fault)),
         };
         Outcome {
             status,
-            history: Journal {
-                entries: Vec::new(alloc),
-            },
-            told: NoticeList {
-                notices: Vec::new(alloc),
-            },
-            builds: 0,
+            history: replayed.history,
+            told: replayed.told,
+            builds: replayed.builds,
             fault,
-            tests,
+            tests: replayed.tests,
         }
+    }
+
+    /// The outcome of a run that ended before it made a call.
+    #[tactic(auto, unfolding(seq_model::specs::Builds::builds, seq_model::specs::Legal::GoesOn, seq_model::specs::Legal::Legal, seq_model::specs::Told::told, seq_model::specs::Told::told_from))]
+    pub fn without_replay(alloc: Global, why: Fault) -> Outcome
+        ensures status { result.status ≡ status_of (Err why) }
+        ensures fault { result.fault ≡ trace_fault_of (Err why) }
+        ensures unmade { result.history ≡ [] }
+        ensures untold { notices_of result.told ≡ [] }
+        ensures legal { Legal result.history }
+        ensures told { notices_of result.told ≡ told result.history }
+        ensures builds { result.builds ≡ builds result.history }
+    {
+        let nothing = Replayed {
+            history: Journal::of(Vec::new(alloc)),
+            told: NoticeList::new(alloc),
+            builds: 0,
+            tests: 0,
+            short: false,
+        };
+        Outcome::of(nothing, Err(why))
     }
 
     /// Why the run ended early, whose text is the line on standard error; `None` with status 0.

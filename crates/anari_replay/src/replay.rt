@@ -1,29 +1,33 @@
 //! The top call: words and a trace in, images out.
-ghost use Rattle.std.specs.Prelude.{◌≡◌, ◌↔◌, ◌⊎◌, ◌+◌, ◌≤◌, length, IsSome, IfErr, IfOk, IsErrOf, OnOk};
+ghost use Rattle.std.specs.Prelude.{◌≡◌, ◌↔◌, [], false, IsSome, IfErr, IfOk, IsErrOf, OnErr, OnOk};
 ghost use Rattle.std.specs.Io.KnownBytes.{Appends};
+ghost use Rattle.replay_core.specs.Reports.{report};
+ghost use Rattle.replay_core.specs.Views.{notices_of};
+ghost use Rattle.replay_core.specs.declared.prints.Print.TheVariants.{Images};
 ghost use Rattle.replay_io.specs.Faults.{Rose};
 ghost use Rattle.replay_io.specs.Streams.{AppendsPrefix};
+ghost use Rattle.seq_model.specs.Builds.{builds};
+ghost use Rattle.seq_model.specs.Legal.{Legal};
+ghost use Rattle.seq_model.specs.Told.{told};
 ghost use Rattle.anari_replay.specs.Words.{AreSolo};
-ghost use Rattle.anari_replay.specs.Input.{most_bytes, IsRefused};
-ghost use Rattle.anari_replay.specs.Faults.{IsCauseIn, IsRefusal, IsSilent};
-ghost use Rattle.anari_replay.specs.Drawn.{IsDrawn, IsTold};
-ghost use Rattle.anari_replay.specs.Outcome.{IsStatus};
+ghost use Rattle.anari_replay.specs.Input.{IsRefused, IsReplay};
+ghost use Rattle.anari_replay.specs.Faults.{IsCauseAfter, IsCauseBefore};
+ghost use Rattle.anari_replay.specs.Outcome.{IsAfterReplay, IsBeforeReplay, IsInPart, IsStatus};
 
-use crate::fault::{Fault, Rule};
-use crate::first_trace::FirstTrace;
-use crate::outcome::{Outcome, Replayed};
-use crate::recogniser::read_first_trace;
-use crate::scene::image_of;
+use crate::fault::Fault;
+use crate::images::images_of;
+use crate::outcome::Outcome;
 use crate::words::are_solo;
+use replay_core::{Replayed, solo};
 use replay_io::{Sink, Source, read_up_to, write_all};
-use serde_json::Value;
 use std::alloc::Global;
+use trace_text::read_trace;
 
 /// One byte more than a trace may have.
 const MOST_READ: usize = 67108865;
 
-/// Replays the trace that `source` gives and writes its image to `sink`. The words are those after
-/// the program's name; `solo` is the one command. Waits for nobody and always returns.
+/// Replays the trace that `source` gives on one thread, and writes its images to `sink`. The words are
+/// those after the program's name; `solo` is the one command. Waits for nobody and always returns.
 pub fn run_plain<S: Source, K: Sink>(
     alloc: Global,
     words: &[String],
@@ -45,71 +49,72 @@ pub fn run_plain<S: Source, K: Sink>(
         → IsRefused (S.left source.old) (S.left source.new) (S.ended source.new) result.fault }
     ensures fault { IsSome result.fault ↔ (result.status ≡ 6) }
 
-    // What is written is the image of the picture of the scene that the bytes describe, or with
-    // status 5 some of its first bytes.
-    ensures drawn { result.status ≡ 0
-        → IsDrawn (S.left source.old) (S.left source.new) (S.ended source.new)
-        (Appends (K.written sink.old) (K.written sink.new)) }
-    ensures drawn_in_part { result.status ≡ 5
-        → IsDrawn (S.left source.old) (S.left source.new) (S.ended source.new)
-        (AppendsPrefix (K.written sink.old) (K.written sink.new)) }
+    // The history is that of the trace on one thread. With every status it is legal, and told and
+    // builds are its own.
+    ensures replayed { IsAfterReplay result.status
+        → IsReplay (S.left source.old) (S.left source.new) (S.ended source.new) result.history }
+    ensures legal { Legal result.history }
+    ensures told { notices_of result.told ≡ told result.history }
+    ensures builds { result.builds ≡ builds result.history }
 
-    // Nothing is written where the words or the trace are refused or a read failed.
-    ensures silent { (result.status ≡ 2) ⊎ (result.status ≡ 4) ⊎ (result.status ≡ 6)
-        → sink.new ≡ sink.old }
+    // What is written are its images, or some of their first bytes.
+    ensures written { result.status ≡ 0
+        → Appends (K.written sink.old) (K.written sink.new) (report Images result.history result.builds) }
+    ensures written_in_part { IsInPart result.status
+        → AppendsPrefix (K.written sink.old) (K.written sink.new) (report Images result.history result.builds) }
+
+    // Nothing is made or written where the words or the trace are refused or a read failed.
+    ensures unmade { IsBeforeReplay result.status → result.history ≡ [] }
+    ensures untold { IsBeforeReplay result.status → notices_of result.told ≡ [] }
+    ensures silent { IsBeforeReplay result.status → sink.new ≡ sink.old }
 {
-    Outcome::of(alloc, replay(alloc, words, source, sink))
+    match replay(alloc, words, source) {
+        Ok(replayed) => {
+            let written = write_images(alloc, &replayed, sink);
+            Outcome::of(replayed, written)
+        }
+        Err(why) => Outcome::without_replay(alloc, why),
+    }
 }
 
-/// The same, with the cause of an early end. Each cause is found before anything after it is done.
-fn replay<S: Source, K: Sink>(
-    alloc: Global,
-    words: &[String],
-    source: &mut S,
-    sink: &mut K,
-) -> Result<Replayed, Fault>
+/// The replay of the trace that `source` gives. Each cause of an early end is found before anything
+/// after it is done.
+fn replay<S: Source>(alloc: Global, words: &[String], source: &mut S) -> Result<Replayed, Fault>
     ensures words { IsErrOf result Fault.Words ↔ ¬ AreSolo words.now }
     ensures unread { IsErrOf result Fault.Words → source.new ≡ source.old }
     ensures read_fault { IsErrOf result Fault.Read → Rose (S.faults source.old) (S.faults source.new) }
-    ensures write_fault { IsErrOf result Fault.Write → Rose (K.faults sink.old) (K.faults sink.new) }
-    ensures refused { IfErr result
-        (IsRefusal (S.left source.old) (S.left source.new) (S.ended source.new)) }
-    ensures drawn { OnOk result
-        (IsDrawn (S.left source.old) (S.left source.new) (S.ended source.new)
-        (Appends (K.written sink.old) (K.written sink.new))) }
-    ensures drawn_in_part { IsErrOf result Fault.Write
-        → IsDrawn (S.left source.old) (S.left source.new) (S.ended source.new)
-        (AppendsPrefix (K.written sink.old) (K.written sink.new)) }
-    ensures silent { IfErr result (IsSilent sink.old sink.new) }
+    ensures cause { IfErr result
+        (IsCauseBefore (S.left source.old) (S.left source.new) (S.ended source.new)) }
+    ensures replayed { IfOk result (λ replayed. replayed.short ≡ false
+        → IsReplay (S.left source.old) (S.left source.new) (S.ended source.new) replayed.history) }
+    ensures legal { IfOk result (λ replayed. Legal replayed.history) }
+    ensures told { IfOk result (λ replayed. notices_of replayed.told ≡ told replayed.history) }
+    ensures builds { IfOk result (λ replayed. replayed.builds ≡ builds replayed.history) }
 {
     if !are_solo(words) {
         return Err(Fault::Words);
     }
     let bytes = read_up_to(alloc, source, MOST_READ)?;
-    let trace = recognise(alloc, bytes.as_slice())?;
-    let image = image_of(alloc, &trace)?;
-    write_all(sink, image.as_slice())?;
-    Ok(Replayed {
-        tests: trace.tests(),
-    })
+    let trace = read_trace(alloc, bytes.as_slice())?;
+    Ok(solo(alloc, &trace))
 }
 
-/// The trace that the bytes are.
-fn recognise(alloc: Global, bytes: &[u8]) -> Result<FirstTrace, Fault>
-    requires { length bytes.now ≤ most_bytes + 1 }
-    ensures ok { IfOk result (IsTold bytes.now) }
-    ensures err { IfErr result (IsCauseIn bytes.now) }
+/// Writes the images of a replay, unless it was short of memory.
+fn write_images<K: Sink>(alloc: Global, replayed: &Replayed, sink: &mut K) -> Result<(), Fault>
+    requires { Legal replayed.now.history }
+    ensures whole { OnOk result (replayed.now.short ≡ false) }
+    ensures written { OnOk result (Appends (K.written sink.old) (K.written sink.new)
+        (report Images replayed.now.history replayed.now.builds)) }
+    ensures in_part { OnErr result (AppendsPrefix (K.written sink.old) (K.written sink.new)
+        (report Images replayed.now.history replayed.now.builds)) }
+    ensures whole_in_part { IsErrOf result Fault.Write → replayed.now.short ≡ false }
+    ensures write_fault { IsErrOf result Fault.Write → Rose (K.faults sink.old) (K.faults sink.new) }
+    ensures cause { IfErr result IsCauseAfter }
 {
-    if bytes.len() == MOST_READ {
-        return Err(Fault::Trace(Rule::TooLong.at_start()));
+    if replayed.short {
+        return Err(Fault::Memory);
     }
-    let value = match Value::from_slice(alloc, bytes) {
-        Ok(value) => value,
-        Err(error) if error.is_memory() => return Err(Fault::Memory),
-        Err(_) => return Err(Fault::Trace(Rule::NotJson.at_start())),
-    };
-    match read_first_trace(alloc, value)? {
-        Some(trace) => Ok(trace),
-        None => Err(Fault::Trace(Rule::NotReadYet.at_start())),
-    }
+    let images = images_of(alloc, &replayed.history)?;
+    write_all(sink, images.as_slice())?;
+    Ok(())
 }
