@@ -1,18 +1,17 @@
 -- A device to which nothing happened.
-use Rattle.std.proofs.Common.{◌≡◌, ◌∙◌, ◌≤◌, ◌<◌, ◌+◌, ℕ, zero, suc, All, List, [], Some, length, vec_capacity, refl, sym, ap, subst, arith}
+use Rattle.std.proofs.Common.{◌≡◌, ◌∙◌, ◌≤◌, ◌<◌, ◌+◌, ℕ, zero, suc, All, [], length, vec_capacity, refl, sym, ap, subst, arith}
 use Rattle.std.proofs.lemmas.List.Elements.{All-nil}
 use Rattle.seq_model.proofs.Afters.{frame_within}
 use Rattle.seq_model.specs.Extensions.{readings_from, readings_of}
-use Rattle.seq_model.specs.Histories.{frame_at, public}
+use Rattle.seq_model.specs.Histories.{public}
 use Rattle.seq_model.specs.Legal.{GoesOn, Legal}
 use Rattle.seq_model.specs.State.{empty}
-use Rattle.seq_model.specs.Steps.{Past, after, start}
+use Rattle.seq_model.specs.Steps.{after, start}
 use Rattle.plain_device.specs.Counts.{count_at}
-use Rattle.plain_device.specs.Kept.{IsKept, KnowsRenders}
+use Rattle.plain_device.specs.Kept.{KnowsRenders}
 use Rattle.plain_device.specs.Whole.{IsWhole, past_in}
 use Rattle.plain_device.specs.Worlds.{KnowsWorlds}
 use Rattle.plain_device.specs.declared.books.Books.{Books}
-use Rattle.plain_device.specs.declared.renders.Render.{Render}
 
 start_is_after : start ≡ after []
 unfolding after
@@ -33,7 +32,7 @@ nothing_is_counted (suc i) = refl
 
 nothing_is_rendered : KnowsRenders [] []
 nothing_is_rendered = record {
-  kept = λ t f found. let within : (0 < t) × (t ≤ length []) = frame_within [] t f found in absurd (omega (arith, within.0, within.1));
+  kept = λ t f found. let within : (0 < t) × (t ≤ 0) = frame_within [] t f found in absurd (omega (arith, within.0, within.1));
   happened = All-nil _;
 }
 

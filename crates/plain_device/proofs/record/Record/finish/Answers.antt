@@ -1,6 +1,6 @@
-use Rattle.std.proofs.Common.{◌≡◌, ◌∙◌, ◌++◌, ap, subst, sym, rules}
+use Rattle.std.proofs.Common.{◌∙◌, ◌++◌, ap, subst, sym}
 use Rattle.seq_model.specs.Legal.{Legal}
-use Rattle.seq_model.specs.Steps.{Past, step}
+use Rattle.seq_model.specs.Steps.{Past}
 use Rattle.seq_model.specs.Told.{told, told_by}
 use Rattle.seq_model.specs.declared.calls.Entry.TheVariants.{Closed}
 use Rattle.plain_device.proofs.Closings.{ending_done}

@@ -1,4 +1,4 @@
-use Rattle.std.proofs.Common.{◌≡◌, ◌∙◌, ◌+◌, ◌++◌, ◌∷◌, [], ap, rules, subst, sym, true, false}
+use Rattle.std.proofs.Common.{◌≡◌, ◌∙◌, ◌+◌, ◌++◌, ap, rules, subst, sym}
 use Rattle.seq_model.specs.Steps.{Past, step}
 use Rattle.seq_model.specs.Told.{told, told_by}
 use Rattle.seq_model.specs.declared.calls.Entry.TheVariants.{Left}

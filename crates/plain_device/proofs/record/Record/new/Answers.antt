@@ -1,6 +1,5 @@
-use Rattle.std.proofs.Common.{◌≡◌, ◌∙◌, ◌≤◌, [], length, rules, subst, sym, vec_capacity}
+use Rattle.std.proofs.Common.{rules, subst, sym}
 use Rattle.plain_device.proofs.Beginnings.{begins}
-use Rattle.seq_model.specs.State.{empty}
 use Rattle.plain_device.specs.Whole.{IsWhole}
 use Rattle.plain_device.proofs.record.Record.new.Goals as goal
 
