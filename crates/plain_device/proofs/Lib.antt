@@ -11,6 +11,7 @@ pub mod Entries
 pub mod FlightFacts
 pub mod GrantedScenes
 pub mod LastUses
+pub mod Lasts
 pub mod Legality
 pub mod NamedFacts
 pub mod Places

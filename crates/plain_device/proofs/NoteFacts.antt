@@ -1,14 +1,17 @@
 -- A flight that finishes, and one that leaves, with all that goes then.
-use Rattle.std.proofs.Common.{◌≡◌, ◌∙◌, ◌-◌, ◌*◌, ◌==◌, not, ℕ, true, ◌++◌, ◌∷◌, [], length, refl, ap, arith}
+use Rattle.std.proofs.Common.{◌≡◌, ◌∙◌, ◌-◌, ◌*◌, ◌==◌, not, ℕ, true, ◌++◌, ◌∷◌, [], length, refl, ap, arith, Result, Ok, Err, OnOk, OnErr, subst, sym}
 use Rattle.std.specs.List.{filter}
 use Rattle.std.proofs.lemmas.List.{length-map}
 use Rattle.seq_model.specs.Legal.{is_flying}
 use Rattle.seq_model.specs.Life.{has}
 use Rattle.seq_model.specs.State.{Phase, Done, Empty, State, flights}
-use Rattle.seq_model.specs.Steps.{change, end_flight, end_flights}
+use Rattle.seq_model.specs.Steps.{Past, change, end_flight, end_flights, step}
 use Rattle.seq_model.specs.declared.calls.Entry.{Entry}
-use Rattle.seq_model.specs.declared.calls.Entry.TheVariants.{Finished, Left}
-use Rattle.plain_device.proofs.Legality.{finished_is_legal}
+use Rattle.seq_model.specs.declared.calls.Call.{Call}
+use Rattle.seq_model.specs.declared.calls.Entry.TheVariants.{Called, Finished, Left}
+use Rattle.seq_model.specs.declared.calls.Reply.{Reply}
+use Rattle.plain_device.proofs.Closings.{seen_more}
+use Rattle.plain_device.proofs.Legality.{called_is_open, finished_is_legal}
 use Rattle.plain_device.proofs.StepFacts.{finish_is_note, leave_is_note, note_stepped, was_unseen}
 use Rattle.plain_device.specs.Booked.{IsMarked, IsNoted}
 use Rattle.plain_device.specs.Open.{IsOpen, IsUnseen}
@@ -52,3 +55,9 @@ pub leave_stepped : (stage : State) (old new final : Books) (t : ℕ) (mid chang
 leave_stepped stage old new final t mid changed left whole unseen there noted marked ended let_go is =
     let now : changed ≡ changed_in_past stage old (Left t) = let_go ∙ leave_changes stage old t mid ended in
     (note_stepped stage old new final (Left t) changed left whole noted (leave_is_note stage old t there) marked unseen now is refl, now)
+
+-- after a call, entered or not, a device is as open as before
+pub open_after : {E : Type 0} (past new : Past) (actor : ℕ) (call : Call) (reply : Reply) (result : Result (Unit {0}) E) → IsOpen past.seen →
+    OnOk result (new ≡ step past (Called actor call reply)) → OnErr result (new ≡ past) → IsOpen new.seen
+open_after past new actor call reply (Ok done) open_ entered same = subst IsOpen (sym (ap (λ (p : Past). p.seen) entered ∙ seen_more past (Called actor call reply))) (called_is_open past open_ actor call reply)
+open_after past new actor call reply (Err refused) open_ entered same = subst IsOpen (sym (ap (λ (p : Past). p.seen) same)) open_

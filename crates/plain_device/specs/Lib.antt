@@ -13,6 +13,7 @@ pub mod Shown
 pub mod Suits
 pub mod Sweeping
 pub mod Uses
+pub mod Views
 pub mod Whole
 pub mod Worlds
 pub mod Ready

@@ -8,6 +8,7 @@ pub mod changes;
 pub mod contents;
 pub mod counting;
 pub mod creations;
+pub mod device;
 pub mod elements;
 pub mod endings;
 pub mod frames;

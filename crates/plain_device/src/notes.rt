@@ -44,4 +44,18 @@ impl Record {
         self.books.enter_note(Entry::Left(ticket));
         sweep_by(&mut self.stage, &mut self.books, client);
     }
+
+    /// The flight with this ticket, which was stopped, has left. Takes no memory.
+    pub fn let_leave<C: Client>(&mut self, client: &mut C, ticket: u64)
+        requires stopped { has ticket self.old.state.stopped ≡ true }
+        requires open { IsOpen self.old.seen }
+        requires room { length self.old.state.objects ≤ C.spare client.old }
+        ensures entered { self.new ≡ step self.old (Left ticket) }
+        ensures open { IsOpen self.new.seen }
+        ensures told { C.notices client.new ≡ C.notices client.old ++ told_by self.old (Left ticket) }
+        ensures room { length self.new.state.objects ≤ C.spare client.new }
+    {
+        let _ = &self.stage;
+        self.leave(client, ticket);
+    }
 }

@@ -1,5 +1,5 @@
 //! The objects of a device, as they are kept.
-ghost use Rattle.std.specs.Prelude.{◌*◌, ◌==◌, IsTrue, filter, not, ◌≡◌, [], ◌∷◌, ◌++◌, ◌≤◌, ◌^◌, None, IfOk, OnOk, OnErr, length, option_copied};
+ghost use Rattle.std.specs.Prelude.{IfSome, ◌*◌, ◌==◌, IsTrue, filter, not, ◌≡◌, [], ◌∷◌, ◌++◌, ◌≤◌, ◌^◌, None, IfOk, OnOk, OnErr, length, option_copied};
 ghost use Rattle.dev_types.specs.Blocks.{FitsBlock};
 ghost use Rattle.dev_types.specs.DataTypes.{byte_size, is_element_type};
 ghost use Rattle.dev_types.specs.declared.data_types.DataType.TheVariants as ty;
@@ -148,6 +148,7 @@ impl Object {
     pub fn content(&self) -> Option<Strided<'_>>
         ensures value { result ≡ option_map (λ a. lent_block a.block) self.now.array }
         ensures size { IsCounted result }
+        ensures fits { IfSome result (λ e. FitsBlock e.ty e.stride e.count (length e.bytes)) }
     {
         let array = self.array.as_ref()?;
         Some(Strided::over(
