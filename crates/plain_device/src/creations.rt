@@ -24,7 +24,7 @@ pub fn needed_length(elem: DataType, stride: u64, count: u64) -> u128
 }
 
 /// Whether the elements of an array overlap, or take too many bytes.
-fn is_bad_layout(elem: DataType, count: u64, stride: u64) -> bool
+pub fn is_bad_layout(elem: DataType, count: u64, stride: u64) -> bool
     ensures { result ≡ is_bad_layout elem count stride }
 {
     stride < u64::from(size_of(elem))
