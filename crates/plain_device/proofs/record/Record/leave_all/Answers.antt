@@ -28,7 +28,7 @@ leave-requires-clause-legal g c =
 pub loop-ticket-preserved : goal.loop-ticket-preserved
 loop-ticket-preserved g c =
     elim c.if-is_flight.branch [
-      then-is_flight w ↦
+      | then-is_flight w ↦
           let e = Left c.loop-ticket.ticket in
           let next : c.if-is_flight.self ≡ step c.loop-ticket.self e = w.self-is ∙ w.leave.ensures.entered in
           let more = ending_step c.args.self.now c.loop-ticket.self c.loop-ticket.ticket c.loop-ticket.invariant.ending (search rules) in
@@ -39,7 +39,7 @@ loop-ticket-preserved g c =
                 ∙ told_on c.loop-ticket.self e c.loop-ticket.invariant.ending.led ∙ ap (λ (p : Past). told p.seen) (sym next);
             room = search rules;
           }
-    | else-is_flight w ↦
+      | else-is_flight w ↦
           record {
             ending = subst (λ (p : Past). IsEnding c.args.self.now p (c.loop-ticket.ticket + 1)) (sym w.self-is) (ending_over c.args.self.now c.loop-ticket.self c.loop-ticket.ticket c.loop-ticket.invariant.ending (search rules));
             told = λ before. ap g.C.Client.notices w.client-is ∙ c.loop-ticket.invariant.told before ∙ ap (λ (p : Past). told p.seen) (sym w.self-is);
