@@ -1,6 +1,7 @@
 // What the proofs cannot see: that the definition of life keeps what an application expects, on small worked stages.
 ghost use Rattle.std.specs.Prelude.{◌-◌, vec_capacity, vec_len};
 
+use crate::device::{Device, Ended};
 use crate::objects::{Array, Object, ParameterLoan, Shows};
 use crate::reaches::Reach;
 use crate::stage::Stage;
@@ -11,6 +12,7 @@ use dev_types::{
     encode_value, size_of,
 };
 use kind_tables::Kind;
+use seq_model::Entry;
 use std::alloc::Global;
 use std::test::Fail;
 
@@ -274,5 +276,23 @@ fn what_a_flight_reached_lives_until_it_is_over(rt: HostRuntime) -> Result<(), F
     assert_eq!(rt; bench.listener.heard.len(), 2);
     assert!(rt; is_let_go(&bench.listener.heard[0], 1, 8));
     assert!(rt; is_let_go(&bench.listener.heard[1], 2, 9));
+    Ok(())
+}
+
+#[test]
+fn a_device_to_which_nothing_happened_ends_with_its_close(rt: HostRuntime) -> Result<(), Fail> {
+    let listener = Listener {
+        heard: Vec::new(rt.alloc()),
+    };
+    let device = Device::new(rt.alloc(), listener).map_err(|_| "out of memory")?;
+    let Ended {
+        history,
+        client,
+        builds,
+    } = device.finish();
+    assert_eq!(rt; history.len(), 1);
+    assert!(rt; matches!(history.get(0), Entry::Closed));
+    assert_eq!(rt; builds, 0);
+    assert!(rt; client.heard.is_empty());
     Ok(())
 }
