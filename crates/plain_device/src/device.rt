@@ -1,9 +1,10 @@
 //! The sequential device: what an application calls, one call after the other.
-ghost use Rattle.std.specs.Prelude.{◌≡◌, ◌≤◌, ◌++◌, IfOk, IfErr, IfSome, IsSome, OnErr, OnOk, Some, length, option_copied, true};
+ghost use Rattle.std.specs.Prelude.{◌≡◌, ◌≤◌, ◌++◌, IfOk, IfErr, IfSome, IsSome, None, OnErr, OnOk, Some, length, option_copied, true};
 ghost use Rattle.std.specs.Option.{option_map};
 ghost use Rattle.dev_types.specs.Blocks.{FitsBlock};
-ghost use Rattle.plain_device.specs.Endings.{ended, reply_to};
-ghost use Rattle.plain_device.specs.Named.{block_of};
+ghost use Rattle.plain_answers.specs.Waiting.{waited_flight};
+ghost use Rattle.plain_journal.specs.Endings.{ended, reply_to};
+ghost use Rattle.plain_objects.specs.Named.{block_of};
 ghost use Rattle.plain_device.specs.Views.{client_of, past_of, last_reply, content_at, reply_in};
 ghost use Rattle.seq_model.specs.Answers.{answer};
 ghost use Rattle.seq_model.specs.Builds.{builds};
@@ -16,10 +17,12 @@ ghost use Rattle.seq_model.specs.Steps.{next_place, start, step};
 ghost use Rattle.seq_model.specs.Told.{told, told_by};
 ghost use Rattle.seq_model.specs.declared.calls.Entry.TheVariants.{Called, Finished, Left};
 
-use crate::objects::Shows;
-use crate::record::Record;
+use crate::steps::step;
 use byte_view::Strided;
 use dev_types::{Bytes, Client, Handle, NoMemory};
+use plain_answers::contents::entered;
+use plain_journal::record::Record;
+use plain_objects::objects::Shows;
 use seq_model::{Call, Entry, Journal, Reply};
 use std::alloc::Global;
 use std::marker::Model;
@@ -33,7 +36,7 @@ pub struct Device<C: Client> {
 
 impl<C: Client> Model for Device<C> {
     ghost use Rattle.std.specs.Prelude.{◌≤◌, length};
-    ghost use Rattle.plain_device.specs.Open.{IsOpen};
+    ghost use Rattle.plain_journal.specs.Open.{IsOpen};
     ghost use Rattle.plain_device.specs.Views.{Seen};
 
     ghost Value = { Seen C };
@@ -67,22 +70,6 @@ fn last_reply(entries: &[Entry]) -> Option<&Reply>
     reply_in(entries.last()?)
 }
 
-impl Record {
-    /// The reply of the last entry, where it is a call.
-    fn reply(&self) -> Option<&Reply>
-        ensures { option_copied result ≡ last_reply self.now.seen }
-    {
-        last_reply(&self.books.journal)
-    }
-
-    /// All that happened is legal.
-    fn is_legal(&self)
-        ensures { Legal self.now.seen }
-    {
-        let _ = &self.stage;
-    }
-}
-
 impl<C: Client> Device<C> {
     /// A device to which nothing happened. The only error is want of memory, and the client comes back.
     pub fn new(alloc: Global, client: C) -> Result<Device<C>, (NoMemory, C)>
@@ -103,6 +90,44 @@ impl<C: Client> Device<C> {
             Shows::Flight(ticket) => Some(ticket),
             _ => None,
         }
+    }
+
+    /// Whether a frame waits for the flight with this ticket.
+    pub fn is_flying(&self, ticket: u64) -> bool
+        ensures { result ≡ is_flying (past_of self.now).state ticket }
+    {
+        self.record.is_flying(ticket)
+    }
+
+    /// Whether the flight with this ticket was stopped and has not left.
+    pub fn is_stopped(&self, ticket: u64) -> bool
+        ensures { result ≡ has ticket (past_of self.now).state.stopped }
+    {
+        self.record.is_stopped(ticket)
+    }
+
+    /// The flight that a call waits for: only once that has finished is the call answered.
+    pub fn waits_for(&self, call: &Call) -> Option<u64>
+        ensures value { result ≡ waited_flight (past_of self.now) call.now }
+        ensures answered { result ≡ None → IsSome (answer (past_of self.now) call.now) }
+    {
+        self.waited_flight(call)
+    }
+
+    fn waited_flight(&self, call: &Call) -> Option<u64>
+        ensures { result ≡ waited_flight (past_of self.now) call.now }
+    {
+        match call {
+            Call::FrameReady { h, wait: true } => self.flight_of(*h),
+            _ => None,
+        }
+    }
+
+    /// Whom the device tells of statuses and of the ends of arrays.
+    pub fn client(&self) -> &C
+        ensures { result.now ≡ client_of self.now }
+    {
+        &self.client
     }
 
     /// The place of the next entry.
@@ -131,7 +156,7 @@ impl<C: Client> Device<C> {
     pub fn reply(&self) -> Option<&Reply>
         ensures { option_copied result ≡ last_reply (past_of self.now).seen }
     {
-        self.record.reply()
+        last_reply(self.record.journal())
     }
 
     /// The call as it is entered: of what it brings back, elements that name no object of their type name none. The only
@@ -142,7 +167,7 @@ impl<C: Client> Device<C> {
         ensures legal { Legal (past_of self.now).seen }
     {
         self.record.is_legal();
-        self.record.entered(alloc, call)
+        entered(&self.record, alloc, call)
     }
 
     /// One call: it is answered, and entered with its reply. All memory is taken before anything changes.
@@ -157,7 +182,7 @@ impl<C: Client> Device<C> {
         ensures err { OnErr result ((past_of self.new ≡ past_of self.old) × (C.notices (client_of self.new) ≡ C.notices (client_of self.old))) }
         ensures returned { IfErr result (λ e. e.1 ≡ call) }
     {
-        self.record.step(alloc, &mut self.client, actor, call)
+        step(&mut self.record, alloc, &mut self.client, actor, call)
     }
 
     /// The flight with this ticket has finished: its frame shows its picture. Takes no memory.

@@ -1,82 +1,32 @@
 -- A call whose flight is finished first is answered.
-use Rattle.std.proofs.Common.{ℕ, zero, suc, ◌==◌, ◌≡◌, ◌∙◌, Bool, true, false, List, Option, Some, None, refl, sym, ap, subst}
+use Rattle.std.proofs.Common.{ℕ, ◌==◌, ◌≡◌, ◌∙◌, true, false, Option, Some, None, refl, sym, ap, subst}
 use Rattle.std.specs.Prelude.{IsSome, cond}
-use Rattle.std.specs.Bool.{then_some}
-use Rattle.std.specs.Option.{is_none, option_and_then, option_map, option_map_or, option_or}
+use Rattle.std.specs.Option.{option_map, option_map_or}
 use Rattle.std.proofs.lemmas.Bool.{eq-eqb}
-use Rattle.dev_types.specs.declared.handles.Channel.{Channel}
-use Rattle.dev_types.specs.declared.refusals.Refused.{Refused}
-use Rattle.kind_tables.specs.Kinds.{kind_of}
-use Rattle.kind_tables.specs.Rows.{parameters_of, row_of}
-use Rattle.kind_tables.specs.declared.kinds.Kind.{Kind}
-use Rattle.kind_tables.specs.declared.rows.Row.{Row}
+use Rattle.plain_answers.proofs.Answering.{answered_now}
+use Rattle.plain_answers.specs.Waiting.{waited_flight}
 use Rattle.replay_core.specs.Solo.{asked_flight, ready_for, with_note}
 use Rattle.seq_model.proofs.Came.{swept_was}
-use Rattle.seq_model.proofs.Granted.{AllNone, all_none}
 use Rattle.seq_model.proofs.Handles.{changed, changed_rises, rises, step_state}
 use Rattle.seq_model.proofs.Keys.{at_map}
-use Rattle.seq_model.specs.Answers.{answer, granted, info_of, mapped_picture, property_by, readiness}
+use Rattle.seq_model.specs.Answers.{answer}
 use Rattle.seq_model.specs.Histories.{History}
-use Rattle.seq_model.specs.Refusals.{phase_at, refusal, refusals_of, refusal_of_info, in_flight, no_picture}
-use Rattle.seq_model.specs.State.{Object, Phase, Empty, Flight, Done, is_in_flight, object_at, ticket_in}
+use Rattle.seq_model.specs.Refusals.{phase_at}
+use Rattle.seq_model.specs.State.{Object, Empty, Done, is_in_flight, object_at, ticket_in}
 use Rattle.seq_model.specs.Steps.{Past, after, change, end_flight, end_flights, set_phase, step}
 use Rattle.seq_model.specs.declared.calls.Call.{Call}
-use Rattle.seq_model.specs.declared.calls.Call.TheVariants.{FrameReady, MapFrame, RenderFrame, GetProperty, ObjectInfo, ParameterInfo}
+use Rattle.seq_model.specs.declared.calls.Call.TheVariants.{FrameReady, MapFrame, RenderFrame}
 use Rattle.seq_model.specs.declared.calls.Entry.TheVariants.{Finished}
 use Rattle.seq_model.specs.declared.calls.Reply.TheVariants as reply
 
--- what no refusal applies to
-none_apply : (past : Past) (call : Call) → refusal past call ≡ None → AllNone (refusals_of past call)
-unfolding refusal
-none_apply past call none = all_none (refusals_of past call) none
-
--- a call on a frame that is not in flight
-ready_answered : (past : Past) (wait : Bool) (phase : Phase) → ticket_in phase ≡ None → no_picture phase ≡ None → IsSome (readiness past wait phase)
-ready_answered past wait Empty still some = absurd cc
-ready_answered past wait (Flight t) still some = absurd cc
-ready_answered past true (Done t) still some = refl
-ready_answered past false (Done t) still some = refl
-
-map_answered : (past : Past) (c : Channel) (phase : Phase) → in_flight past phase ≡ None → no_picture phase ≡ None → IsSome (mapped_picture past c phase)
-map_answered past c Empty still some = absurd cc
-map_answered past c (Flight t) still some = absurd cc
-map_answered past c (Done t) still some = refl
-
--- a query
-property_answered : (past : Past) (h : ℕ) (x : Option Object) (refused : Refused) → then_some (is_none x) refused ≡ None → IsSome (option_map reply.Val (option_map (λ o. property_by past h o.kind) x))
-property_answered past h None refused none = absurd cc
-property_answered past h (Some o) refused none = refl
-
-kind_answered : (x : Option Kind) (refused : Refused) → then_some (is_none x) refused ≡ None → IsSome (option_map (λ kind. reply.Listed (parameters_of kind)) x)
-kind_answered None refused none = absurd cc
-kind_answered (Some kind) refused none = refl
-
-row_answered : (x : Option Row) (refused : Refused) → then_some (is_none x) refused ≡ None → IsSome (option_map (λ row. reply.Info (info_of row)) x)
-row_answered None refused none = absurd cc
-row_answered (Some row) refused none = refl
-
-info_answered : (x : Option Kind) (name : List ℕ) → refusal_of_info x name ≡ None → IsSome (option_map (λ row. reply.Info (info_of row)) (option_and_then (λ kind. row_of kind name) x))
-info_answered None name none = absurd cc
-info_answered (Some kind) name none = row_answered (row_of kind name) _ none
-
--- each call that no refusal applies to, and that asks for no flight
-granted_answered : (past : Past) (call : Call) → asked_flight past call ≡ None → AllNone (refusals_of past call) → IsSome (granted past call)
-unfolding refusals_of
-granted_answered past (FrameReady h wait) still none = ready_answered past wait (phase_at past h) still none.1.1.1.0
-granted_answered past (MapFrame h c) still none = map_answered past c (phase_at past h) none.1.1.1.0 none.1.1.1.1.0
-granted_answered past (GetProperty zero name) still none = refl
-granted_answered past (GetProperty (suc h) name) still none = property_answered past (suc h) (object_at past.state (suc h)) _ none.0
-granted_answered past (ObjectInfo t subtype) still none = kind_answered (kind_of t subtype) _ none.0
-granted_answered past (ParameterInfo t subtype name) still none = info_answered (kind_of t subtype) name none.0
-granted_answered past _ still none = refl
+-- a call that asks for no flight waits for none
+waits_for_none : (past : Past) (call : Call) → asked_flight past call ≡ None → waited_flight past call ≡ None
+waits_for_none past (FrameReady h true) still = still
+waits_for_none past (FrameReady h false) still = refl
+waits_for_none past _ still = refl
 
 pub still_answered : (past : Past) (call : Call) → asked_flight past call ≡ None → IsSome (answer past call)
-unfolding answer
-still_answered past call still = by (refusal past call) refl
-  where
-    by : (x : Option Refused) → refusal past call ≡ x → IsSome (option_or (option_map reply.Denied x) (granted past call))
-    by None is = granted_answered past call still (none_apply past call is)
-    by (Some refused) is = refl
+still_answered past call still = answered_now past call (waits_for_none past call still)
 
 -- a frame whose flight was just finished is not in flight
 finished_still : (t : ℕ) (p : Object) → ticket_in p.phase ≡ Some t → ticket_in (end_flight t (Done t) p).phase ≡ None

@@ -1,0 +1,4 @@
+pub mod Answering
+pub mod Bounded
+pub mod Cleaned
+pub mod Corners

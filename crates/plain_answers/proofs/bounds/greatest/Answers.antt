@@ -1,0 +1,11 @@
+use Rattle.std.proofs.Common.{rules}
+use Rattle.plain_answers.proofs.Corners.{greatest_has_room, read_room}
+use Rattle.plain_answers.proofs.bounds.greatest.Goals as goal
+
+pub narrowed-requires-clause-low : goal.narrowed-requires-clause-low
+narrowed-requires-clause-low c =
+    (read_room c.highest.result (search rules) (greatest_has_room c.args.axis c.args.points.now c.highest.result c.requires c.highest.ensures)).low
+
+pub narrowed-requires-clause-high : goal.narrowed-requires-clause-high
+narrowed-requires-clause-high c =
+    (read_room c.highest.result (search rules) (greatest_has_room c.args.axis c.args.points.now c.highest.result c.requires c.highest.ensures)).high

@@ -1,6 +1,0 @@
-use Rattle.std.proofs.Common.{refl}
-use Rattle.plain_device.proofs.WorldFacts.{knows_nothing}
-use Rattle.plain_device.proofs.worlds.Worlds.new.Goals as goal
-
-pub returns : goal.returns
-returns c = knows_nothing _ c.new.ensures.items refl

@@ -1,0 +1,41 @@
+use Rattle.std.proofs.Common.{◌≡◌, ◌∙◌, ◌≤◌, ◌++◌, ap, length, rules, sym, arith}
+use Rattle.std.specs.List.{filter_map}
+use Rattle.seq_model.specs.State.{Empty, State}
+use Rattle.seq_model.specs.Steps.{Past, step}
+use Rattle.seq_model.specs.Told.{end_of_object, gone, told_by}
+use Rattle.seq_model.specs.declared.calls.Entry.TheVariants.{Left}
+use Rattle.plain_journal.proofs.NoteFacts.{as_many, leave_stepped, marks_fit, same_next}
+use Rattle.plain_journal.specs.Whole.{past_in}
+use Rattle.plain_journal.proofs.record.Record.leave.Goals as goal
+
+pub sweep_by-requires-clause-marks : goal.sweep_by-requires-clause-marks
+sweep_by-requires-clause-marks g c =
+    let next = ap (λ (s : State). s.next) c.let_leave.ensures ∙ ap (λ (s : State). s.next) c.end_flights.ensures ∙ same_next c.args.ticket Empty c.self.inside.stage in
+    marks_fit c.self.inside.stage c.self.inside.books c.enter_note.new.self (Left c.args.ticket) c.let_leave.new.self.next c.self.invariant c.enter_note.ensures next
+
+pub sweep_by-requires-clause-room : goal.sweep_by-requires-clause-room
+sweep_by-requires-clause-room g c =
+    let same = ap (λ (s : State). length s.objects) c.let_leave.ensures ∙ ap (λ (s : State). length s.objects) c.end_flights.ensures ∙ as_many c.args.ticket Empty c.self.inside.stage in
+    let room : length c.self.inside.stage.objects ≤ g.C.Client.spare c.args.client.now = search rules in
+    omega (arith, same, room)
+
+pub invariant_of-self : goal.invariant_of-self
+invariant_of-self g c =
+    (leave_stepped c.self.inside.stage c.self.inside.books c.enter_note.new.self c.sweep_by.new.books c.args.ticket c.end_flights.new.self c.let_leave.new.self c.sweep_by.new.stage c.self.invariant
+    (search rules) (search rules) c.enter_note.ensures c.sweep_by.ensures.books c.end_flights.ensures c.let_leave.ensures c.sweep_by.ensures.stage).0.whole
+
+pub returns : goal.returns
+returns g c =
+    let view : c.args.self.now ≡ past_in c.self.inside.stage c.self.inside.books = search rules in
+    let e = Left c.args.ticket in
+    let stepped =
+    leave_stepped c.self.inside.stage c.self.inside.books c.enter_note.new.self c.sweep_by.new.books c.args.ticket c.end_flights.new.self c.let_leave.new.self c.sweep_by.new.stage c.self.invariant
+    (search rules) (search rules) c.enter_note.ensures c.sweep_by.ensures.books c.end_flights.ensures c.let_leave.ensures c.sweep_by.ensures.stage in
+    let notices = g.C.Client.notices c.args.client.now in
+    record {
+      entered = stepped.0.past ∙ ap (λ (p : Past). step p e) (sym view);
+      told =
+          c.sweep_by.ensures.told ∙ ap (λ (s : State). notices ++ filter_map end_of_object (gone s c.sweep_by.new.stage)) stepped.1
+          ∙ ap (λ ns. notices ++ ns) (stepped.0.told ∙ ap (λ (p : Past). told_by p e) (sym view));
+      room = c.sweep_by.ensures.room;
+    }

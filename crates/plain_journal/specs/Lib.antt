@@ -1,0 +1,11 @@
+pub mod Booked
+pub mod Counting
+pub mod Endings
+pub mod Kept
+pub mod Leaving
+pub mod Open
+pub mod Prepared
+pub mod Ready
+pub mod Uses
+pub mod Whole
+pub mod Worlds

@@ -1,0 +1,8 @@
+pub mod Adding
+pub mod Ended
+pub mod Entries
+pub mod NamedFacts
+pub mod Removals
+pub mod Rounds
+pub mod SuitFacts
+pub mod Turns

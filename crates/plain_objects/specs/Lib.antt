@@ -1,0 +1,5 @@
+pub mod Counts
+pub mod Named
+pub mod Shown
+pub mod Suits
+pub mod Sweeping
