@@ -2,6 +2,7 @@
 //! no ray hits it.
 #![tactic(auto)]
 
+mod searches;
 mod shapes;
 #[cfg(test)]
 mod tests;
