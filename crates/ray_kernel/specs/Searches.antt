@@ -9,7 +9,9 @@ use Rattle.box_tests.specs.declared.boxes.Box3.{Box3}
 use Rattle.bvh_build.specs.Trees.{Bvh, IsNested, IsTreeOf, flat, leaves, levels}
 use Rattle.bvh_build.specs.declared.trees.Item.{Item}
 use Rattle.bvh_build.specs.declared.trees.Node.{Node}
+use Rattle.bvh_build.specs.declared.trees.Node.TheVariants.{Leaf, Fork}
 use Rattle.picture_model.specs.declared.records.Hit.{Hit}
+use Rattle.picture_model.specs.Limits.{IsShapeWithin}
 use Rattle.picture_model.specs.Hits.{behind, hit_after, hit_with, nearer, nearest, nearest_of}
 use Rattle.ray_kernel.specs.Shapes.{IsHolding}
 use Rattle.ray_kernel.specs.declared.searches.Branch.{Branch}
@@ -52,10 +54,11 @@ candidate q item = wanted q.after (hit_with_some q.ray (slice_get q.placed item.
 abbrev pub best_in : Query → List Item → Option Hit
 best_in q items = nearest_of (filter_map (candidate q) items)
 
--- the item's box holds the shape of its primitive
+-- the item's box holds the shape of its primitive, which keeps to its limits
 pub record IsItemOf (q : Query) (item : Item) : Type 0 where
   pub primitive : Place × Shape
   pub is : slice_get q.placed item.index ≡ Some primitive
+  pub within : IsShapeWithin primitive.1
   pub holds : IsHolding item.bounds primitive.1
 
 -- a tree, or a part of one, over primitives of the query
@@ -91,6 +94,11 @@ pub record IsSearch (q : Query) (waiting : List Branch) (best : Option Hit) : Ty
   pub low : AreLow 21 trees
   pub finds : nearer best (best_in q (all_leaves trees)) ≡ answer q
 
+-- the box of a node
+abbrev pub bounds_of : Node → Box3
+bounds_of (Leaf item) = item.bounds
+bounds_of (Fork bounds n) = bounds
+
 -- nothing that is wanted in these nodes is nearer than the best hit
 abbrev pub IsIdle : Query → List Node → Option Hit → Type 0
 IsIdle q nodes best = (tree : Bvh) → nodes ≡ flat tree → IsPart q tree → nearer best (best_in q (leaves tree)) ≡ best
@@ -99,3 +107,8 @@ IsIdle q nodes best = (tree : Bvh) → nodes ≡ flat tree → IsPart q tree →
 pub record IsBranchFrom (q : Query) (nodes : List Node) (branch : Branch) : Type 0 where
   pub same : branch.nodes.now ≡ nodes
   pub entry : (tree : Bvh) → nodes ≡ flat tree → IsPart q tree → IsEntry q (leaves tree) branch.entry
+
+-- what is found of these nodes: a branch, or that they need no search
+abbrev pub IsReached : Query → List Node → Option Hit → Option Branch → Type 0
+IsReached q nodes best None = IsIdle q nodes best
+IsReached q nodes best (Some branch) = IsBranchFrom q nodes branch
