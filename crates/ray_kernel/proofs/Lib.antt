@@ -1,3 +1,4 @@
 pub mod Corners
 pub mod Crossings
 pub mod Holdings
+pub mod Nearers

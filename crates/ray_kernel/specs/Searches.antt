@@ -1,6 +1,6 @@
 -- A search through a tree of boxes for the nearest hit behind a given one, if one is given.
-use Rattle.std.specs.Prelude.{Option, Some, None, ℕ, zero, suc, ⊤, ⊥, ◌≡◌, ◌≤◌, List, [], ◌∷◌, ◌++◌, All, AllZip, slice_get}
-use Rattle.std.specs.List.{filter_map}
+use Rattle.std.specs.Prelude.{Option, Some, None, ℕ, zero, suc, ⊤, ◌≡◌, ◌≤◌, List, [], ◌∷◌, ◌++◌, All, slice_get}
+use Rattle.std.specs.List.{AllZip, filter_map}
 use Rattle.std.specs.Option.{ForSome}
 use Rattle.fx_math.specs.declared.vectors.Ray.{Ray}
 use Rattle.fx_math.specs.declared.scene.Place.{Place}
