@@ -2,3 +2,4 @@ pub mod Corners
 pub mod Crossings
 pub mod Holdings
 pub mod Nearers
+pub mod Subtrees
