@@ -2,4 +2,5 @@ pub mod Corners
 pub mod Crossings
 pub mod Holdings
 pub mod Nearers
+pub mod Starts
 pub mod Subtrees
