@@ -4,3 +4,4 @@ pub mod Holdings
 pub mod Nearers
 pub mod Starts
 pub mod Subtrees
+pub mod Waits
