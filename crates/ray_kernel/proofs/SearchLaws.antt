@@ -172,34 +172,34 @@ reached_size : (q : Query) (nodes : List Node) (best : Option Hit) (branch : Opt
 reached_size q nodes best None idle = omega arith
 reached_size q nodes best (Some branch) from = let same = ap length from.same in omega arith
 
-children_size : (ws : List Branch) (x : Branch) (b : Box3) (n : ℕ) (rest : List Node) (ps qs : List Branch) → x.nodes.now ≡ Fork b n ∷ rest →
+-- what is reached of two parts of some nodes has no more nodes than they are
+children_fit : (q : Query) (best : Option Hit) (n : ℕ) (rest : List Node) (first second : Option Branch) → IsReached q (take n rest) best first → IsReached q (drop n rest) best second →
+    sum_by (λ b. length b.nodes.now) (option_to_list first) + sum_by (λ b. length b.nodes.now) (option_to_list second) ≤ length rest
+children_fit q best n rest first second one two =
+    let size_one = reached_size q (take n rest) best first one in
+    let size_two = reached_size q (drop n rest) best second two in
+    let all = sym (length-append (take n rest) (drop n rest)) ∙ ap length (take-append-drop n rest) in
+    omega arith
+
+fewer_by : (ws : List Branch) (x : Branch) (b : Box3) (n : ℕ) (rest : List Node) (ps qs : List Branch) → x.nodes.now ≡ Fork b n ∷ rest →
     sum_by (λ b. length b.nodes.now) ps + sum_by (λ b. length b.nodes.now) qs ≤ length rest →
     sum_by (λ b. length b.nodes.now) (ws ++ (ps ++ qs)) < sum_by (λ b. length b.nodes.now) (ws ++ (x ∷ []))
-children_size ws x b n rest ps qs is fits =
+fewer_by ws x b n rest ps qs is fits =
     let all = sum_by-append (λ b. length b.nodes.now) ws (ps ++ qs) in
     let new = sum_by-append (λ b. length b.nodes.now) ps qs in
     let old = sum_by_push (λ b. length b.nodes.now) ws x in
     let long = ap length is in
     omega arith
 
-split_size : (n : ℕ) (rest : List Node) → length (take n rest) + length (drop n rest) ≡ length rest
-split_size n rest = sym (length-append (take n rest) (drop n rest)) ∙ ap length (take-append-drop n rest)
-
 -- and so with the children of a fork in its place
 pub fewer_fork : (q : Query) (ws : List Branch) (x : Branch) (best : Option Hit) (b : Box3) (n : ℕ) (rest : List Node) (first second : Option Branch) →
     x.nodes.now ≡ Fork b n ∷ rest → IsReached q (take n rest) best first → IsReached q (drop n rest) best second →
     sum_by (λ b. length b.nodes.now) (ws ++ (option_to_list first ++ option_to_list second)) < sum_by (λ b. length b.nodes.now) (ws ++ (x ∷ []))
-fewer_fork q ws x best b n rest first second is one two =
-    let size_one = reached_size q (take n rest) best first one in
-    let size_two = reached_size q (drop n rest) best second two in
-    let whole_size = split_size n rest in
-    children_size ws x b n rest (option_to_list first) (option_to_list second) is (omega arith)
+fewer_fork q ws x best b n rest first second is one two = fewer_by ws x b n rest (option_to_list first) (option_to_list second) is (children_fit q best n rest first second one two)
 
 pub fewer_fork_far : (q : Query) (ws : List Branch) (x : Branch) (best : Option Hit) (b : Box3) (n : ℕ) (rest : List Node) (first second : Option Branch) →
     x.nodes.now ≡ Fork b n ∷ rest → IsReached q (take n rest) best first → IsReached q (drop n rest) best second →
     sum_by (λ b. length b.nodes.now) (ws ++ (option_to_list second ++ option_to_list first)) < sum_by (λ b. length b.nodes.now) (ws ++ (x ∷ []))
 fewer_fork_far q ws x best b n rest first second is one two =
-    let size_one = reached_size q (take n rest) best first one in
-    let size_two = reached_size q (drop n rest) best second two in
-    let whole_size = split_size n rest in
-    children_size ws x b n rest (option_to_list second) (option_to_list first) is (omega arith)
+    let fits = children_fit q best n rest first second one two in
+    fewer_by ws x b n rest (option_to_list second) (option_to_list first) is (omega arith)
