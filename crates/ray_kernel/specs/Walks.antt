@@ -1,5 +1,5 @@
 -- The tests of a search on its way through the tree, and the order of its branches.
-use Rattle.std.specs.Prelude.{Option, Some, None, ℕ, Bool, true, false, nat_le, nat_lt, List, ◌++◌, if◌then◌else◌, length, sum_by}
+use Rattle.std.specs.Prelude.{Option, Some, None, ℕ, Bool, true, false, nat_le, nat_lt, List, ◌++◌, if◌then◌else◌, ◌+◌, ◌/◌, length, sum_by}
 use Rattle.std.specs.Option.{option_to_list}
 use Rattle.picture_model.specs.declared.records.Hit.{Hit}
 use Rattle.ray_kernel.specs.declared.searches.Branch.{Branch}
@@ -30,3 +30,7 @@ pushed waiting first second =
 -- how many nodes wait
 abbrev pub nodes_in : List Branch → ℕ
 nodes_in waiting = sum_by (λ b. length b.nodes.now) waiting
+
+-- how many leaves wait: of n nodes of a tree, (n + 1) / 2 are leaves
+abbrev pub leaves_in : List Branch → ℕ
+leaves_in waiting = sum_by (λ b. (length b.nodes.now + 1) / 2) waiting

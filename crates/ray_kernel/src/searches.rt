@@ -85,8 +85,7 @@ impl<'a, P: PrimSource> Search<'a, P> {
 
     /// The branch of these nodes, unless no hit in it is wanted or it has none that is nearer than the best one.
     pub(crate) fn reach<'n>(&self, nodes: &'n [Node], best: &Option<Hit>) -> Option<Branch<'n>>
-        requires ray { IsRayWithin self.now.ray }
-        requires some { 0 < length nodes.now }
+        requires { 0 < length nodes.now }
         ensures { IsReached self.now nodes.now best.now result }
     {
         let (entry, exit) = self.prepared.span(bounds_of(&nodes[0]))?;

@@ -32,7 +32,6 @@ pub(crate) fn run<P: PrimSource>(search: &Search<P>, tree: &Tree, tests: &mut u6
 /// The whole tree waits, unless nothing in it is wanted.
 fn start<'a, P: PrimSource>(search: &Search<P>, tree: &'a Tree) -> Waiting<'a>
     requires tree { IsTreeFor tree.now search.now.placed }
-    requires ray { IsRayWithin search.now.ray }
     requires shapes { All (λ p. IsShapeWithin p.1) search.now.placed }
     ensures { IsSearch search.now result.items None }
 {

@@ -24,8 +24,8 @@ split_at-requires g c =
     let split = fork_is c.args.search.now c.args.waiting.now.items c.args.branch.now c.args.best _ c.in-Fork.count _ c.requires.search (first_is c.args.branch.now.nodes.now _ _ some c.in-Fork.is) in
     rw (rest_is c.args.branch.now.nodes.now some) split.fits
 
-pub reach-requires-clause-some : goal.reach-requires-clause-some
-reach-requires-clause-some g c =
+pub reach-requires : goal.reach-requires
+reach-requires g c =
     let ws = c.args.waiting.now.items in
     let x = c.args.branch.now in
     let some = some_nodes c.args.search.now ws x c.args.best c.requires.search in
@@ -34,8 +34,8 @@ reach-requires-clause-some g c =
     let split = fork_is c.args.search.now ws x c.args.best _ c.in-Fork.count _ c.requires.search is in
     rw (c.split_at.ensures.front, rest) split.first
 
-pub reach-requires-in-Fork-clause-some : goal.reach-requires-in-Fork-clause-some
-reach-requires-in-Fork-clause-some g c =
+pub reach-requires-in-Fork : goal.reach-requires-in-Fork
+reach-requires-in-Fork g c =
     let ws = c.args.waiting.now.items in
     let x = c.args.branch.now in
     let some = some_nodes c.args.search.now ws x c.args.best c.requires.search in
