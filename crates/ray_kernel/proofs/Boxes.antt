@@ -1,11 +1,14 @@
 -- The boxes of a source's primitives, one by one.
 use Rattle.std.proofs.Common.{◌≡◌, ℕ, zero, suc, ◌+◌, List, [], ◌∷◌, ◌++◌, All, Some, length, map, take, arith}
 use Rattle.std.proofs.Math.Seq.{take-length}
+use Rattle.std.proofs.lemmas.List.Elements.{All-map}
 use Rattle.std.specs.List.{AllZip, slice_get}
 use Rattle.fx_math.specs.declared.scene.Place.{Place}
+use Rattle.fx_math.specs.declared.scene.Primitive.{Primitive}
 use Rattle.fx_math.specs.declared.scene.Shape.{Shape}
 use Rattle.box_tests.specs.declared.boxes.Box3.{Box3}
-use Rattle.picture_model.specs.Limits.{IsShapeWithin}
+use Rattle.picture_model.specs.Limits.{IsPrimitiveWithin, IsShapeWithin}
+use Rattle.picture_model.specs.Shading.{placed}
 use Rattle.ray_kernel.specs.Shapes.{IsHolding}
 
 pub shape_within : (placed : List (Place × Shape)) (i : ℕ) (s : Shape) → All (λ p. IsShapeWithin p.1) placed → slice_get (map (λ p. p.1) placed) i ≡ Some s → IsShapeWithin s
@@ -27,3 +30,8 @@ boxes_next (x ∷ xs) (suc i) (p ∷ ps) b s held is holds = let e : suc i + 1 �
 
 pub boxes_all : (boxes : List Box3) (i : ℕ) (placed : List (Place × Shape)) → AreFor boxes i placed → i ≡ length placed → AllZip (λ b p. IsHolding b p.1) boxes placed
 boxes_all boxes i placed held is = rw (is, take-length placed) at held
+
+-- ---- scenes
+-- the shapes of primitives within the limits
+pub shapes_within : (ps : List Primitive) → All IsPrimitiveWithin ps → All (λ p. IsShapeWithin p.1) (placed ps)
+shapes_within ps all = All-map (λ p. IsShapeWithin p.1) (λ p. (p.place, p.shape)) ps (λ k d h. (all k d h).shape)

@@ -2,6 +2,7 @@ pub mod Boxes
 pub mod Corners
 pub mod Crossings
 pub mod Holdings
+pub mod Leaves
 pub mod Nearers
 pub mod Reaches
 pub mod SearchLaws

@@ -75,15 +75,15 @@ leaf_searched q ws x best item rest s first =
     settled q ws best (nearer best (candidate q item)) (leaves p.tree) (levels p.tree) (ap (nearer best) (ap (best_in q) one ∙ best_in_one q item)) p.left
 
 -- a fork's children
-record IsFork (q : Query) (tree : Bvh) (n : ℕ) (rest : List Node) : Type 0 where
-  first : Bvh
-  second : Bvh
-  left : take n rest ≡ flat first
-  right : drop n rest ≡ flat second
-  items : leaves tree ≡ leaves first ++ leaves second
-  high : levels tree ≡ suc (max (levels first) (levels second))
-  one : IsPart q first
-  two : IsPart q second
+pub record IsFork (q : Query) (tree : Bvh) (n : ℕ) (rest : List Node) : Type 0 where
+  pub first : Bvh
+  pub second : Bvh
+  pub left : take n rest ≡ flat first
+  pub right : drop n rest ≡ flat second
+  pub items : leaves tree ≡ leaves first ++ leaves second
+  pub high : levels tree ≡ suc (max (levels first) (levels second))
+  pub one : IsPart q first
+  pub two : IsPart q second
 
 halves : {X : Type 0} (P : X → Type 0) (xs ys : List X) → All P (xs ++ ys) → All P xs × All P ys
 halves P xs ys all = (
@@ -108,7 +108,7 @@ fork_of q (a_fork bounds first second) b n rest laid part =
       two = record { items = items.1; nested = part.nested.2 };
     }
 
-fork_at : (q : Query) (ws : List Branch) (x : Branch) (best : Option Hit) (b : Box3) (n : ℕ) (rest : List Node) (p : IsPopped q ws x best) → x.nodes.now ≡ Fork b n ∷ rest → IsFork q p.tree n rest
+pub fork_at : (q : Query) (ws : List Branch) (x : Branch) (best : Option Hit) (b : Box3) (n : ℕ) (rest : List Node) (p : IsPopped q ws x best) → x.nodes.now ≡ Fork b n ∷ rest → IsFork q p.tree n rest
 fork_at q ws x best b n rest p first = fork_of q p.tree b n rest (sym first ∙ p.branch.laid) p.branch.part
 
 -- both have nodes

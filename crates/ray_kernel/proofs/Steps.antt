@@ -9,8 +9,9 @@ use Rattle.bvh_build.specs.declared.trees.Node.{Node}
 use Rattle.bvh_build.specs.declared.trees.Node.TheVariants.{Fork}
 use Rattle.picture_model.specs.declared.records.Hit.{Hit}
 use Rattle.ray_kernel.specs.Searches.{IsReached, IsSearch, IsTreeFor, Query, answer}
-use Rattle.ray_kernel.specs.Walks.{is_beyond, is_first, nodes_in, pushed}
+use Rattle.ray_kernel.specs.Walks.{is_beyond, is_first, leaves_in, nodes_in, pushed}
 use Rattle.ray_kernel.specs.declared.searches.Branch.{Branch}
+use Rattle.ray_kernel.proofs.Leaves.{leaves_fork, leaves_fork_far}
 use Rattle.ray_kernel.proofs.Reaches.{test_is}
 use Rattle.ray_kernel.proofs.SearchLaws.{fewer, fewer_fork, fewer_fork_far, fork_searched, fork_searched_far, passed, ends, room, starts_empty}
 
@@ -62,4 +63,12 @@ fewer_pushed q ws x best b n rest first second is one two =
     elim (is_first first second) as (λ near. nodes_in (if near then ws ++ (option_to_list second ++ option_to_list first) else ws ++ (option_to_list first ++ option_to_list second)) < nodes_in (ws ++ (x ∷ []))) [
       | true ↦ fewer_fork_far q ws x best b n rest first second is one two
       | false ↦ fewer_fork q ws x best b n rest first second is one two
+    ]
+
+pub leaves_pushed : (q : Query) (ws : List Branch) (x : Branch) (best : Option Hit) (b : Box3) (n : ℕ) (rest : List Node) (first second : Option Branch) → IsSearch q (ws ++ (x ∷ [])) best →
+    x.nodes.now ≡ Fork b n ∷ rest → IsReached q (take n rest) best first → IsReached q (drop n rest) best second → leaves_in (pushed ws first second) ≤ leaves_in (ws ++ (x ∷ []))
+leaves_pushed q ws x best b n rest first second s is one two =
+    elim (is_first first second) as (λ near. leaves_in (if near then ws ++ (option_to_list second ++ option_to_list first) else ws ++ (option_to_list first ++ option_to_list second)) ≤ leaves_in (ws ++ (x ∷ []))) [
+      | true ↦ leaves_fork_far q ws x best b n rest first second s is one two
+      | false ↦ leaves_fork q ws x best b n rest first second s is one two
     ]

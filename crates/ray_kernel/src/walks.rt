@@ -1,9 +1,9 @@
-ghost use Rattle.std.specs.Prelude.{◌≡◌, ◌<◌, ◌≤◌, [], ◌∷◌, ◌++◌, All};
+ghost use Rattle.std.specs.Prelude.{◌≡◌, ◌+◌, ◌<◌, ◌≤◌, [], ◌∷◌, ◌++◌, All, length};
 ghost use Rattle.std.specs.Option.{option_to_list};
 ghost use Rattle.arrayvec.specs.ArrayVec.{array_vec_len};
 ghost use Rattle.picture_model.specs.Limits.{IsRayWithin, IsShapeWithin};
 ghost use Rattle.ray_kernel.specs.Searches.{IsSearch, IsTreeFor, answer};
-ghost use Rattle.ray_kernel.specs.Walks.{is_first, nodes_in, pushed};
+ghost use Rattle.ray_kernel.specs.Walks.{is_first, leaves_in, nodes_in, pushed};
 
 use crate::searches::{Branch, Search, is_beyond};
 use arrayvec::ArrayVec;
@@ -20,6 +20,7 @@ pub(crate) fn run<P: PrimSource>(search: &Search<P>, tree: &Tree, tests: &mut u6
     requires shapes { All (λ p. IsShapeWithin p.1) search.now.placed }
     ensures answer { result ≡ answer search.now }
     ensures tests { tests.old ≤ tests.new }
+    ensures once { tests.new ≤ tests.old + length search.now.placed }
 {
     let mut waiting = start(search, tree);
     let mut best = None;
@@ -33,7 +34,8 @@ pub(crate) fn run<P: PrimSource>(search: &Search<P>, tree: &Tree, tests: &mut u6
 fn start<'a, P: PrimSource>(search: &Search<P>, tree: &'a Tree) -> Waiting<'a>
     requires tree { IsTreeFor tree.now search.now.placed }
     requires shapes { All (λ p. IsShapeWithin p.1) search.now.placed }
-    ensures { IsSearch search.now result.items None }
+    ensures search { IsSearch search.now result.items None }
+    ensures leaves { leaves_in result.items ≤ length search.now.placed }
 {
     let mut waiting = ArrayVec::new();
     let nodes = tree.nodes();
@@ -58,6 +60,7 @@ fn step<'a, P: PrimSource>(
     ensures search { IsSearch search.now waiting.new.items result }
     ensures less { nodes_in waiting.new.items < nodes_in (waiting.old.items ++ branch.now ∷ []) }
     ensures tests { tests.old ≤ tests.new }
+    ensures once { tests.new + leaves_in waiting.new.items ≤ tests.old + leaves_in (waiting.old.items ++ branch.now ∷ []) }
 {
     if is_beyond(branch.entry, &best) {
         return best;
