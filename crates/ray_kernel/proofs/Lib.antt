@@ -1,3 +1,12 @@
+pub mod Boxes
 pub mod Corners
 pub mod Crossings
 pub mod Holdings
+pub mod Leaves
+pub mod Nearers
+pub mod Reaches
+pub mod SearchLaws
+pub mod Starts
+pub mod Steps
+pub mod Subtrees
+pub mod Waits
