@@ -1,6 +1,8 @@
 //! What no clause says: that the images are the right ones, and that an answer other than want of
 //! memory comes where there is memory.
 
+ghost use Rattle.std.specs.Prelude.{◌<◌};
+
 use crate::outcome::Outcome;
 use crate::replay::run_plain;
 use crate::rows::TRIANGLE;
@@ -130,6 +132,31 @@ fn failing_streams_give_their_status(rt: HostRuntime) -> Result<(), Fail> {
             "reads {reads:?} writes {writes:?}"
         );
     }
+    Ok(())
+}
+
+/// A trace of so many calls, each refused since nothing has bound its label.
+fn refused_retains(alloc: Global, calls: u32) -> Result<String, AllocError>
+    requires { 0 < calls }
+{
+    let mut text = String::from_str(alloc, r#"{"trace":1,"phases":[{"callers":[["#)?;
+    for _ in 1..calls {
+        text.push_str(r#"{"op":"retain","object":"x"},"#)?;
+    }
+    text.push_str(r#"{"op":"retain","object":"x"}]]}]}"#)?;
+    Ok(text)
+}
+
+#[test]
+fn a_trace_has_at_most_65536_calls(rt: HostRuntime) -> Result<(), Fail> {
+    let longest = refused_retains(rt.alloc(), 65536)?;
+    let (outcome, _) = solo(rt.alloc(), longest.as_bytes())?;
+    assert_eq!(rt; outcome.status, 0);
+    assert_eq!(rt; outcome.history.len(), 65537);
+    assert_eq!(rt; outcome.told.len(), 65536);
+    let longer = refused_retains(rt.alloc(), 65537)?;
+    let (outcome, _) = solo(rt.alloc(), longer.as_bytes())?;
+    assert_eq!(rt; outcome.fault, Some(at(6, 0, 0, 65536)));
     Ok(())
 }
 
