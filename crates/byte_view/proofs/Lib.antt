@@ -1,1 +1,2 @@
 pub mod ElementFacts
+pub mod Loans

@@ -1,5 +1,5 @@
 ghost use Rattle.std.specs.Prelude.{◌≡◌, ◌-◌, ◌<◌, ◌≤◌, ◌↔◌, IsTrue, IsSome, IfSome, length, take, drop, ◌++◌};
-ghost use Rattle.std.specs.Borrow.{sem, Array, LendsBoth, u8 as byte};
+ghost use Rattle.std.specs.Borrow.{sem, Array, LendsBoth, follows_both, u8 as byte};
 ghost use Rattle.byte_view.specs.Elements.{cut_before};
 ghost use Rattle.dev_types.specs.Blocks.{FitsBlock};
 ghost use Rattle.dev_types.specs.ValueBytes.{type_of, bytes_of, is_well_typed};
@@ -97,6 +97,7 @@ impl<'a> StridedMut<'a> {
         requires { i ≤ (elements self).count }
         ensures front { let e = elements self.entry in elements result.0 ≡ record e { count = i; bytes = take (start_of e i) e.bytes } }
         ensures back { let e = elements self.entry in elements result.1 ≡ record e { count = e.count - i; bytes = drop (start_of e i) e.bytes } }
+        ensures* writes_back { sem 𝓛 (follows_both (Array byte 0) (Array byte 0) (Array byte 0) (borrow_of self.entry) (borrow_of result.0) (borrow_of result.1) ◌++◌) }
     {
         let StridedMut {
             bytes,
@@ -106,8 +107,18 @@ impl<'a> StridedMut<'a> {
         } = self;
         let (front, back) = split_block(bytes, ty, stride, count, i);
         (
-            StridedMut::over(front, ty, stride, i),
-            StridedMut::over(back, ty, stride, count - i),
+            StridedMut {
+                bytes: front,
+                ty,
+                stride,
+                count: i,
+            },
+            StridedMut {
+                bytes: back,
+                ty,
+                stride,
+                count: count - i,
+            },
         )
     }
 }
