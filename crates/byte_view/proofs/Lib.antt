@@ -1,2 +1,3 @@
 pub mod ElementFacts
+pub mod Apart
 pub mod Loans

@@ -1,18 +1,23 @@
 -- A loan of elements as it lies in the machine: the reference is taken out of it, and it is made of one. Assumes `Logic`.
-use Rattle.std.proofs.Common.{◌<◌, ◌^◌, List, [], ◌∷◌, refl, subst, w64}
+use Rattle.std.proofs.Common.{ℕ, ◌<◌, ◌^◌, List, [], ◌∷◌, ◌++◌, refl, sym, subst, w64}
 use seplogic.Ra.Ura.{Ura}
 use lib.Dec.{T}
-use mir.Syntax.{tcons, tnil}
+use mir.Syntax.{erased, tcons, tnil}
 use mir.Val.{Val, vstruct, vcons, vnil, has_tys, WT}
-use base.Logic.{ent, sep, via}
+use base.Fml.{GName, fres}
+use base.Logic.{ent, sep, via, wand, all_e, apply∗}
+use base.Stored.{coded_list}
 use types.Logic.{Logic, sem}
-use types.Kit.{‵, ◌$◌, ◌∵◌, !, qed, move, keep, drop, rewrite, fsplit, fjoin, fpick, fpack, feq_i, done}
+use types.Kit.{‵, raw, ◌⊛◌, by, use1, use2, split, join, ◌$◌, ◌∵◌, !, qed, move, keep, drop, rewrite, fsplit, fjoin, fpick, fpack, feq_i, done}
 use denote.Builtin.{u8, u64}
 use denote.Laws.{Typed, Is, shows}
 use denote.Plain.{uint_vals, uint_Makes}
 use denote.RattleType.{RattleType, Valss}
 use denote.Ref.{NamedLft}
-use denote.Slice.{MutSlice, mut_slice_vals}
+use denote.Slice.{MutSlice, mut_slice_vals, finally, res-finally}
+use denote.Follow.{both_by, follows_both}
+use denote.FollowSlice.{finally-res, heres_id}
+use denote.Array.{Array}
 use denote.Exit.{no, left}
 use denote.Param.Mute.{had}
 use denote.Signature.{plain, named_lft}
@@ -93,3 +98,16 @@ paired 𝓛 R x y u v =
 -- a loan that is used up leaves nothing to give back
 pub spent : {M : Type 1} {𝓤 : Ura M} (𝓛 : Logic 𝓤) → Goes 𝓛 1 (plain (λ κs. S.the_row (named_lft 1 0 tt κs))) no (stay_dropped (plain (λ κs. S.the_row (named_lft 1 0 tt κs))) no)
 spent {𝓤 = 𝓤} 𝓛 κs x f vs ok = via 𝓤 _ (had 𝓛 (left ((S.the_row (named_lft 1 0 tt κs)).exit no) x f) tt) (𝓛.laws.⇛_intro _)
+
+-- what two parts were left at is what the block that follows them was left at
+pub both_left : {M : Type 1} {𝓤 : Ura M} (𝓛 : Logic 𝓤) (γ γ₁ γ₂ : GName) (xs ys : List ℕ)
+    → ent 𝓤 (sep 𝓤 (sem 𝓛 (follows_both (Array u8 0) (Array u8 0) (Array u8 0) γ γ₁ γ₂ ◌++◌)) (sep 𝓤 (sem 𝓛 (finally u8 γ₁ xs)) (sem 𝓛 (finally u8 γ₂ ys)))) (sem 𝓛 (finally u8 γ (xs ++ ys)))
+unfolding both_by
+both_left {𝓤 = 𝓤} 𝓛 γ γ₁ γ₂ xs ys =
+    let Res = λ (δ : GName) (zs : List ℕ). fres δ ((coded_list u8.coded).code zs) in
+    let Both = λ (w : List ℕ × List ℕ). wand 𝓤 (sep 𝓤 (sem 𝓛 (Res γ₁ w.0)) (sem 𝓛 (Res γ₂ w.1))) (sem 𝓛 (Res γ (w.0 ++ w.1))) in
+    qed 𝓛 (‵ (follows_both (Array u8 0) (Array u8 0) (Array u8 0) γ γ₁ γ₂ ◌++◌) ∷ (‵ (finally u8 γ₁ xs) ⊛ ‵ (finally u8 γ₂ ys)) ∷ []) ∵
+    use1 𝓛 (raw (Both (xs, ys))) (all_e 𝓤 Both (xs, ys)) $ move ! (1 ∷ []) $ split ! $
+    use1 𝓛 (‵ (Res γ₁ xs)) (finally-res 𝓛 u8 γ₁ xs) $ move ! (1 ∷ []) $ use1 𝓛 (‵ (Res γ₂ ys)) (finally-res 𝓛 u8 γ₂ ys) $ move ! (1 ∷ 0 ∷ []) $ join ! $
+    use2 𝓛 (‵ (Res γ (xs ++ ys))) (apply∗ 𝓤 (sep 𝓤 (sem 𝓛 (Res γ₁ xs)) (sem 𝓛 (Res γ₂ ys))) (sem 𝓛 (Res γ (xs ++ ys)))) $
+    rewrite ! 0 (λ (zs : List ℕ). ‵ (Res γ zs)) (sym (heres_id u8 (xs ++ ys))) refl $ by ! (res-finally 𝓛 erased [] u8 γ (xs ++ ys))

@@ -1,7 +1,7 @@
 ghost use Rattle.std.specs.Prelude.{◌≡◌, ◌-◌, ◌<◌, ◌≤◌, ◌↔◌, IsTrue, IsSome, IfSome, length, take, drop, ◌++◌};
 ghost use Rattle.std.specs.Borrow.{sem, Array, LendsBoth, follows_both, u8 as byte};
 ghost use Rattle.byte_view.specs.Elements.{cut_before};
-ghost use Rattle.dev_types.specs.Blocks.{FitsBlock};
+ghost use Rattle.dev_types.specs.Blocks.{FitsBlock, with_part};
 ghost use Rattle.dev_types.specs.ValueBytes.{type_of, bytes_of, is_well_typed};
 
 use crate::reads::fits_block;
@@ -91,6 +91,22 @@ impl<'a> StridedMut<'a> {
         write_value(v, &mut self.bytes[start..start + size]);
     }
 
+    /// Writes element `i`, and ends the loan.
+    pub fn put(self, i: u64, v: &Value)
+        requires within { i < self.count }
+        requires typed { type_of v.now ≡ self.ty }
+        requires well_typed { IsTrue (is_well_typed v.now) }
+        ensures { self.exit.0.now ≡ with_part self.entry.ty self.entry.stride self.entry.bytes.now i (bytes_of v.now) }
+    {
+        let StridedMut {
+            bytes,
+            ty,
+            stride,
+            count,
+        } = self;
+        write_element(bytes, ty, stride, count, i, v);
+    }
+
     /// The elements before `i` and those from `i` on, to be written independently of each other. The
     /// bytes are cut as by `split_block`.
     pub fn split_at_mut(self, i: u64) -> (StridedMut<'a>, StridedMut<'a>)
@@ -121,6 +137,16 @@ impl<'a> StridedMut<'a> {
             },
         )
     }
+}
+
+fn write_element(bytes: &mut [u8], ty: DataType, stride: u64, count: u64, i: u64, v: &Value)
+    requires fits { FitsBlock ty stride count (length bytes.old) }
+    requires within { i < count }
+    requires typed { type_of v.now ≡ ty }
+    requires well_typed { IsTrue (is_well_typed v.now) }
+    ensures { bytes.new ≡ with_part ty stride bytes.old i (bytes_of v.now) }
+{
+    StridedMut::over(bytes, ty, stride, count).set(i, v);
 }
 
 /// Cuts a block of elements before element `i`. Both parts are blocks of their elements, which
