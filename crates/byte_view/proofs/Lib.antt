@@ -1,3 +1,4 @@
 pub mod ElementFacts
 pub mod Apart
 pub mod Loans
+pub mod Options

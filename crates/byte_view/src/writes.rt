@@ -1,5 +1,5 @@
 ghost use Rattle.std.specs.Prelude.{◌≡◌, ◌-◌, ◌<◌, ◌≤◌, ◌↔◌, IsTrue, IsSome, IfSome, length, take, drop, ◌++◌};
-ghost use Rattle.std.specs.Borrow.{sem, Array, LendsBoth, follows_both, u8 as byte};
+ghost use Rattle.std.specs.Borrow.{sem, Array, LendsBoth, RestsIfNone, follows_both, u8 as byte};
 ghost use Rattle.byte_view.specs.Elements.{cut_before};
 ghost use Rattle.dev_types.specs.Blocks.{FitsBlock, with_part};
 ghost use Rattle.dev_types.specs.ValueBytes.{type_of, bytes_of, is_well_typed};
@@ -23,11 +23,13 @@ impl<'a> StridedMut<'a> {
     ghost use Rattle.byte_view.specs.Halves.{elements, borrow_of};
 
     /// `None` exactly where arrays have no elements of this type, where the stride is below the
-    /// element's size, or where the last element does not end within the bytes.
+    /// element's size, or where the last element does not end within the bytes. The bytes then stay as they
+    /// were; what is written through the loan stands in them afterwards.
     pub fn new(bytes: &'a mut [u8], ty: DataType, stride: u64, count: u64) -> Option<StridedMut<'a>>
         ensures valid { IsSome result ↔ FitsBlock ty stride count (length bytes.old) }
         ensures value { IfSome result (λ s. elements s ≡ record { ty = ty; stride = stride; count = count; bytes = bytes.old }) }
         ensures same_borrow { IfSome result (λ s. borrow_of s ≡ bytes.entry.ghost_name) }
+        ensures* writes_back { sem 𝓛 (RestsIfNone (Array byte 0) bytes.entry borrow_of result (λ last. last ≡ bytes.old)) }
     {
         if fits_block(ty, stride, count, bytes.len()) {
             Some(StridedMut::over(bytes, ty, stride, count))

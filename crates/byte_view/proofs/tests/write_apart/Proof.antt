@@ -1,6 +1,6 @@
 -- `write_apart` meets its contract: the block is lent again, the loan is split, each half is written and given up, and what
 -- `split_at_mut` says of the block makes its last bytes of theirs.
-use Rattle.std.proofs.Common.{ℕ, ◌≡◌, ◌+◌, ◌-◌, ◌<◌, ◌≤◌, ◌^◌, IsTrue, List, [], ◌∷◌, ◌++◌, length, take, drop as drop_l, refl, sym, ap, ◌∙◌, subst, arith, w64, MutBor}
+use Rattle.std.proofs.Common.{ℕ, ◌≡◌, ◌-◌, ◌<◌, ◌≤◌, ◌^◌, IsTrue, List, [], ◌∷◌, ◌++◌, length, take, drop as drop_l, refl, sym, ap, ◌∙◌, subst, arith, w64, MutBor}
 use Rattle.std.proofs.raw_atomic.Walks.{proved, leaves}
 use mir.Val.{Val, vunit, vstruct, of_list}
 use mir.Syntax.{named}
