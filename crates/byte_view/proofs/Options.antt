@@ -1,16 +1,18 @@
 -- An optional loan: how it lies in the machine, and how the block ends where there is one and where there is none. Assumes `Logic`.
 use Rattle.std.proofs.lemmas.Bool.{false≢true}
-use Rattle.std.proofs.Common.{ℕ, Bool, true, false, not, IsTrue, ◌≡◌, List, [], ◌∷◌, refl, lit<, MutBor}
+use Rattle.std.proofs.Common.{sym, ◌∙◌, ℕ, Bool, true, false, not, IsTrue, ◌≡◌, List, [], ◌∷◌, refl, lit<, MutBor}
 use seplogic.Ra.Ura.{Ura}
 use lib.Dec.{T}
-use mir.Syntax.{tcons, tnil}
+use mir.Syntax.{erased, tcons, tnil}
 use mir.Val.{Val, vcons, vnil, has_tys, WT}
 use base.Fml.{GName, Fml, fsep, fex, feq, fauth, fres}
 use base.Stored.{Gv}
 use base.Logic.{ent, emp, wand}
 use types.Logic.{Logic, sem}
 use types.Match.{live}
-use types.Kit.{‵, ◌$◌, ◌∵◌, !, qed, move, rewrite, fjoin, fpack, feq_i, use0, each, assume, done}
+use denote.FollowSlice.{heres_id}
+use denote.Slice.{finally, res-finally}
+use types.Kit.{by, fpick, ‵, ◌$◌, ◌∵◌, !, qed, move, rewrite, fjoin, fpack, feq_i, use0, each, assume, done}
 use denote.Array.{Array}
 use denote.Builtin.{u8}
 use denote.Enum.Declared.{shape as variants_of}
@@ -107,3 +109,14 @@ module _ {M : Type 1} {𝓤 : Ura M} (𝓛 : Logic 𝓤) where
         qed 𝓛 [] ∵ use0 𝓛 (‵ (follows Block Block s.ghost_name s.ghost_name (λ w. w))) (follows_itself s.ghost_name) $
         rewrite ! 0 (λ (γ : GName). ‵ (follows Block Block s.ghost_name γ (λ w. w))) same refl $
         fpack ! (Picks (Some t)) (λ q. follows_by (List ℕ) (List ℕ) code code s.ghost_name (maybe.some (borrow_of t)) q.0.0 q.0.1) ((λ w. w, s.now), λ w. refl, tt) $ done !
+
+    -- so there is its last value
+    pub rested : ent 𝓤 (sem 𝓛 (RestsIfNone Block s borrow_of None (λ last. last ≡ s.now))) (sem 𝓛 (finally u8 s.ghost_name s.now))
+    unfolding such_by follows_by
+    rested =
+        qed 𝓛 (‵ (RestsIfNone Block s borrow_of None (λ last. last ≡ s.now)) ∷ []) ∵ fpick ! (λ q.
+        rewrite ! 0 (λ (bs : List ℕ). ‵ (fres s.ghost_name (code bs))) (q.2 ∙ sym (heres_id u8 s.now)) refl $ by ! (res-finally 𝓛 erased [] u8 s.ghost_name s.now))
+
+pub by_option : {X : Type 0} {Y : Type 1} (o : Option X) → (o ≡ None → Y) → ((x : X) → o ≡ Some x → Y) → Y
+by_option None none some = none refl
+by_option (Some x) none some = some x refl

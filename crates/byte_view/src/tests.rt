@@ -70,6 +70,28 @@ fn a_write_changes_the_elements_own_bytes(rt: HostRuntime) -> Result<(), Fail> {
     Ok(())
 }
 
+// Element `i`, where such elements lie in the bytes, which else stay as they were.
+fn write_one(bytes: &mut [u8], ty: DataType, stride: u64, count: u64, i: u64, v: &Value)
+    requires within { i < count }
+    requires value { (type_of v.now ≡ ty) × IsTrue (is_well_typed v.now) }
+    ensures written { FitsBlock ty stride count (length bytes.old) → bytes.new ≡ with_part ty stride bytes.old i (bytes_of v.now) }
+    ensures kept { ¬ FitsBlock ty stride count (length bytes.old) → bytes.new ≡ bytes.old }
+{
+    if let Some(loan) = StridedMut::new(bytes, ty, stride, count) {
+        loan.put(i, v);
+    }
+}
+
+#[test]
+fn a_block_is_written_where_its_elements_fit(rt: HostRuntime) {
+    let mut block = [0xee; 10];
+    write_one(&mut block, DataType::Scalar, 6, 3, 1, &Value::Scalar(1));
+    assert!(rt; block.as_slice() == [0xee; 10].as_slice());
+    write_one(&mut block, DataType::Scalar, 6, 2, 1, &Value::Scalar(1));
+    let expected = [0xee, 0xee, 0xee, 0xee, 0xee, 0xee, 1, 0, 0, 0];
+    assert!(rt; block.as_slice() == expected.as_slice());
+}
+
 // Element `j` written through the loan of the elements before `i`, and element `k` through that of the others.
 fn write_apart(
     bytes: &mut [u8],
