@@ -1,5 +1,5 @@
-// What the proofs cannot see: rows from outside, that what is written through a loan stands in the block
-// afterwards, also where two threads write its halves, and that a part is the block's own memory.
+// Rows from outside, and two threads that write the halves of a block. What a block holds after a write
+// through a view, or through both halves of one, is a contract here: that of `write_one` and `write_apart`.
 ghost use Rattle.std.specs.Prelude.{◌≡◌, ◌<◌, ◌≤◌, IsTrue, length};
 ghost use Rattle.dev_types.specs.Blocks.{FitsBlock, with_part};
 ghost use Rattle.dev_types.specs.ValueBytes.{type_of, bytes_of, is_well_typed};

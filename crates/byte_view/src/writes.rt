@@ -93,12 +93,12 @@ impl<'a> StridedMut<'a> {
         write_value(v, &mut self.bytes[start..start + size]);
     }
 
-    /// Writes element `i`, and ends the loan.
+    /// Writes element `i`: its own bytes, and no other byte of the block. The loan ends with it.
     pub fn put(self, i: u64, v: &Value)
-        requires within { i < self.count }
-        requires typed { type_of v.now ≡ self.ty }
+        requires within { i < (elements self).count }
+        requires typed { type_of v.now ≡ (elements self).ty }
         requires well_typed { IsTrue (is_well_typed v.now) }
-        ensures { self.exit.0.now ≡ with_part self.entry.ty self.entry.stride self.entry.bytes.now i (bytes_of v.now) }
+        ensures { self.exit.0.now ≡ (with_element (elements self.entry) i (bytes_of v.now)).bytes }
     {
         let StridedMut {
             bytes,
@@ -110,7 +110,8 @@ impl<'a> StridedMut<'a> {
     }
 
     /// The elements before `i` and those from `i` on, to be written independently of each other. The
-    /// bytes are cut as by `split_block`.
+    /// bytes are cut as by `split_block`, and in the end they are those of the first half and then those of
+    /// the second, as each was left.
     pub fn split_at_mut(self, i: u64) -> (StridedMut<'a>, StridedMut<'a>)
         requires { i ≤ (elements self).count }
         ensures front { let e = elements self.entry in elements result.0 ≡ record e { count = i; bytes = take (start_of e i) e.bytes } }

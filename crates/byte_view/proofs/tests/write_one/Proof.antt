@@ -1,5 +1,5 @@
 -- `write_one` meets its contract: the block is lent again, and the loan of the elements is written, or there is none.
-use Rattle.std.proofs.Common.{ℕ, ◌≡◌, ◌-◌, ◌<◌, ◌^◌, IsTrue, List, [], ◌∷◌, ◌++◌, length, refl, sym, ap, ◌∙◌, subst, arith, w64, MutBor}
+use Rattle.std.proofs.Common.{ℕ, ◌≡◌, ◌<◌, ◌^◌, IsTrue, List, [], ◌∷◌, ◌++◌, length, refl, sym, ap, ◌∙◌, subst, arith, w64, MutBor}
 use Rattle.std.proofs.raw_atomic.Walks.{proved, leaves}
 use mir.Val.{Val, vunit, of_list}
 use mir.Syntax.{named}
