@@ -1,1 +1,4 @@
 pub mod ElementFacts
+pub mod Apart
+pub mod Loans
+pub mod Options

@@ -1,6 +1,7 @@
-// What the proofs cannot see: rows from outside, that what is written through a loan stands in the block
-// afterwards, also where two threads write its halves, and that a part is the block's own memory.
-ghost use Rattle.std.specs.Prelude.{◌≡◌, ◌++◌, IsTrue, length};
+// Rows from outside, and two threads that write the halves of a block. What a block holds after a write
+// through a view, or through both halves of one, is a contract here: that of `write_one` and `write_apart`.
+ghost use Rattle.std.specs.Prelude.{◌≡◌, ◌<◌, ◌≤◌, IsTrue, length};
+ghost use Rattle.dev_types.specs.Blocks.{FitsBlock, with_part};
 ghost use Rattle.dev_types.specs.ValueBytes.{type_of, bytes_of, is_well_typed};
 
 use super::*;
@@ -69,30 +70,71 @@ fn a_write_changes_the_elements_own_bytes(rt: HostRuntime) -> Result<(), Fail> {
     Ok(())
 }
 
-// What each of two loans over the two parts of a block writes stands in the block afterwards.
-fn write_both(bytes: &mut [u8], first: &Value, second: &Value)
-    requires long { length bytes.old ≡ 24 }
-    requires first { (type_of first.now ≡ DataType.ScalarVec3) × IsTrue (is_well_typed first.now) }
-    requires second { (type_of second.now ≡ DataType.ScalarVec3) × IsTrue (is_well_typed second.now) }
-    ensures { bytes.new ≡ bytes_of first.now ++ bytes_of second.now }
+// Element `i`, where such elements lie in the bytes, which else stay as they were.
+fn write_one(bytes: &mut [u8], ty: DataType, stride: u64, count: u64, i: u64, v: &Value)
+    requires within { i < count }
+    requires value { (type_of v.now ≡ ty) × IsTrue (is_well_typed v.now) }
+    ensures written { FitsBlock ty stride count (length bytes.old) → bytes.new ≡ with_part ty stride bytes.old i (bytes_of v.now) }
+    ensures kept { ¬ FitsBlock ty stride count (length bytes.old) → bytes.new ≡ bytes.old }
 {
-    let (front, back) = split_block(bytes, DataType::ScalarVec3, 12, 2, 1);
-    let mut front = StridedMut::over(front, DataType::ScalarVec3, 12, 1);
-    let mut back = StridedMut::over(back, DataType::ScalarVec3, 12, 1);
-    front.set(0, first);
-    back.set(0, second);
+    if let Some(loan) = StridedMut::new(bytes, ty, stride, count) {
+        loan.put(i, v);
+    }
 }
 
 #[test]
-fn both_parts_stand_in_the_block(rt: HostRuntime) {
-    let mut block = [0; 24];
-    write_both(
+fn a_block_is_written_where_its_elements_fit(rt: HostRuntime) {
+    let mut block = [0xee; 10];
+    write_one(&mut block, DataType::Scalar, 6, 3, 1, &Value::Scalar(1));
+    assert!(rt; block.as_slice() == [0xee; 10].as_slice());
+    write_one(&mut block, DataType::Scalar, 6, 2, 1, &Value::Scalar(1));
+    let expected = [0xee, 0xee, 0xee, 0xee, 0xee, 0xee, 1, 0, 0, 0];
+    assert!(rt; block.as_slice() == expected.as_slice());
+}
+
+// Element `j` written through the loan of the elements before `i`, and element `k` through that of the others.
+fn write_apart(
+    bytes: &mut [u8],
+    ty: DataType,
+    stride: u64,
+    count: u64,
+    i: u64,
+    j: u64,
+    k: u64,
+    v: &Value,
+    w: &Value,
+)
+    requires fits { FitsBlock ty stride count (length bytes.old) }
+    requires front { j < i }
+    requires back { i ≤ k }
+    requires within { k < count }
+    requires first { (type_of v.now ≡ ty) × IsTrue (is_well_typed v.now) }
+    requires second { (type_of w.now ≡ ty) × IsTrue (is_well_typed w.now) }
+    ensures { bytes.new ≡ with_part ty stride (with_part ty stride bytes.old j (bytes_of v.now)) k (bytes_of w.now) }
+{
+    let (front, back) = StridedMut::over(bytes, ty, stride, count).split_at_mut(i);
+    front.put(j, v);
+    back.put(k - i, w);
+}
+
+#[test]
+fn both_halves_stand_in_the_block(rt: HostRuntime) {
+    let mut block = [0xee; 16];
+    write_apart(
         &mut block,
-        &Value::ScalarVec3([1, 2, 3]),
-        &Value::ScalarVec3([4, 5, 6]),
+        DataType::Scalar,
+        6,
+        3,
+        1,
+        0,
+        2,
+        &Value::Scalar(1),
+        &Value::Scalar(131072),
     );
-    let view = Strided::new(&block, VECTOR, 12, 2);
-    assert!(rt; view.is_some_and(|view| view.get(1) == Value::ScalarVec3([4, 5, 6])));
+    let expected = [
+        1, 0, 0, 0, 0xee, 0xee, 0xee, 0xee, 0xee, 0xee, 0xee, 0xee, 0, 0, 2, 0,
+    ];
+    assert!(rt; block.as_slice() == expected.as_slice());
 }
 
 #[test]

@@ -1,7 +1,7 @@
 ghost use Rattle.std.specs.Prelude.{◌≡◌, ◌-◌, ◌<◌, ◌≤◌, ◌↔◌, IsTrue, IsSome, IfSome, length, take, drop, ◌++◌};
-ghost use Rattle.std.specs.Borrow.{sem, Array, LendsBoth, u8 as byte};
+ghost use Rattle.std.specs.Borrow.{sem, Array, LendsBoth, RestsIfNone, follows_both, u8 as byte};
 ghost use Rattle.byte_view.specs.Elements.{cut_before};
-ghost use Rattle.dev_types.specs.Blocks.{FitsBlock};
+ghost use Rattle.dev_types.specs.Blocks.{FitsBlock, with_part};
 ghost use Rattle.dev_types.specs.ValueBytes.{type_of, bytes_of, is_well_typed};
 
 use crate::reads::fits_block;
@@ -23,11 +23,13 @@ impl<'a> StridedMut<'a> {
     ghost use Rattle.byte_view.specs.Halves.{elements, borrow_of};
 
     /// `None` exactly where arrays have no elements of this type, where the stride is below the
-    /// element's size, or where the last element does not end within the bytes.
+    /// element's size, or where the last element does not end within the bytes. The bytes then stay as they
+    /// were; what is written through the loan stands in them afterwards.
     pub fn new(bytes: &'a mut [u8], ty: DataType, stride: u64, count: u64) -> Option<StridedMut<'a>>
         ensures valid { IsSome result ↔ FitsBlock ty stride count (length bytes.old) }
         ensures value { IfSome result (λ s. elements s ≡ record { ty = ty; stride = stride; count = count; bytes = bytes.old }) }
         ensures same_borrow { IfSome result (λ s. borrow_of s ≡ bytes.entry.ghost_name) }
+        ensures* writes_back { sem 𝓛 (RestsIfNone (Array byte 0) bytes.entry borrow_of result (λ last. last ≡ bytes.old)) }
     {
         if fits_block(ty, stride, count, bytes.len()) {
             Some(StridedMut::over(bytes, ty, stride, count))
@@ -91,12 +93,30 @@ impl<'a> StridedMut<'a> {
         write_value(v, &mut self.bytes[start..start + size]);
     }
 
+    /// Writes element `i`: its own bytes, and no other byte of the block. The loan ends with it.
+    pub fn put(self, i: u64, v: &Value)
+        requires within { i < (elements self).count }
+        requires typed { type_of v.now ≡ (elements self).ty }
+        requires well_typed { IsTrue (is_well_typed v.now) }
+        ensures { self.exit.0.now ≡ (with_element (elements self.entry) i (bytes_of v.now)).bytes }
+    {
+        let StridedMut {
+            bytes,
+            ty,
+            stride,
+            count,
+        } = self;
+        write_element(bytes, ty, stride, count, i, v);
+    }
+
     /// The elements before `i` and those from `i` on, to be written independently of each other. The
-    /// bytes are cut as by `split_block`.
+    /// bytes are cut as by `split_block`, and in the end they are those of the first half and then those of
+    /// the second, as each was left.
     pub fn split_at_mut(self, i: u64) -> (StridedMut<'a>, StridedMut<'a>)
         requires { i ≤ (elements self).count }
         ensures front { let e = elements self.entry in elements result.0 ≡ record e { count = i; bytes = take (start_of e i) e.bytes } }
         ensures back { let e = elements self.entry in elements result.1 ≡ record e { count = e.count - i; bytes = drop (start_of e i) e.bytes } }
+        ensures* writes_back { sem 𝓛 (follows_both (Array byte 0) (Array byte 0) (Array byte 0) (borrow_of self.entry) (borrow_of result.0) (borrow_of result.1) ◌++◌) }
     {
         let StridedMut {
             bytes,
@@ -106,10 +126,30 @@ impl<'a> StridedMut<'a> {
         } = self;
         let (front, back) = split_block(bytes, ty, stride, count, i);
         (
-            StridedMut::over(front, ty, stride, i),
-            StridedMut::over(back, ty, stride, count - i),
+            StridedMut {
+                bytes: front,
+                ty,
+                stride,
+                count: i,
+            },
+            StridedMut {
+                bytes: back,
+                ty,
+                stride,
+                count: count - i,
+            },
         )
     }
+}
+
+fn write_element(bytes: &mut [u8], ty: DataType, stride: u64, count: u64, i: u64, v: &Value)
+    requires fits { FitsBlock ty stride count (length bytes.old) }
+    requires within { i < count }
+    requires typed { type_of v.now ≡ ty }
+    requires well_typed { IsTrue (is_well_typed v.now) }
+    ensures { bytes.new ≡ with_part ty stride bytes.old i (bytes_of v.now) }
+{
+    StridedMut::over(bytes, ty, stride, count).set(i, v);
 }
 
 /// Cuts a block of elements before element `i`. Both parts are blocks of their elements, which
