@@ -23,7 +23,7 @@ fn is_mapped(channels: &[(Channel, u64)], channel: Channel) -> bool
 }
 
 /// `InFlight` where the frame is in flight, of whose tiles none was seen finished.
-pub fn in_flight(past: &Record, h: Handle) -> Option<Refused>
+fn in_flight(past: &Record, h: Handle) -> Option<Refused>
     ensures { result ≡ in_flight past.now (phase_at past.now h) }
 {
     match past.shows(h) {

@@ -176,6 +176,7 @@ fn bounds(past: &Record, alloc: Global, h: Handle) -> Result<[i32; 6], NoMemory>
     requires { walk_refusal (scene_objects past.now.state) (walk_at past.now h) ≡ None }
     ensures { IfOk result (λ bounds. bounds ≡ bounds_of (primitives_of (scene_objects past.now.state) (walk_at past.now h))) }
 {
+    // So what is shown is within the limits of pictures.
     past.is_legal();
     let visits = walk(past, alloc, h)?;
     let shown = shown(alloc, past.stage(), h, &visits)?;
