@@ -1,5 +1,5 @@
 -- One step of a search, as the code takes it: the last branch that waits was taken out.
-use Rattle.std.proofs.Common.{◌≡◌, ◌<◌, ◌≤◌, ◌-◌, true, false, ℕ, List, [], ◌∷◌, ◌++◌, Option, Some, None, length, take, drop, get_or, if◌then◌else◌, arith, ap}
+use Rattle.std.proofs.Common.{◌≡◌, ◌<◌, ◌≤◌, ◌+◌, ◌-◌, ◌^◌, ◌⊎◌, inl, inr, min, IsSome, true, false, ℕ, List, [], ◌∷◌, ◌++◌, Option, Some, None, length, take, drop, get_or, if◌then◌else◌, arith, ap}
 use Rattle.std.proofs.Math.Seq.{take-length}
 use Rattle.std.proofs.lemmas.List.{length-append}
 use Rattle.std.proofs.lemmas.List.Sums.{sum_by_push}
@@ -72,3 +72,9 @@ leaves_pushed q ws x best b n rest first second s is one two =
       | true ↦ leaves_fork_far q ws x best b n rest first second s is one two
       | false ↦ leaves_fork q ws x best b n rest first second s is one two
     ]
+
+-- a hit was tested at least once
+pub counted_next : (best new : Option Hit) (first before after : ℕ) → first ≤ before → before ≤ after → (IsSome best → min (first + 1) (2 ^ 64 - 1) ≤ before) →
+    (new ≡ best) ⊎ (min (before + 1) (2 ^ 64 - 1) ≤ after) → IsSome new → min (first + 1) (2 ^ 64 - 1) ≤ after
+counted_next best new first before after from to had (inl same) some = let most = had (rw same at some) in omega arith
+counted_next best new first before after from to had (inr more) some = omega arith

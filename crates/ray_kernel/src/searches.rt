@@ -1,4 +1,4 @@
-ghost use Rattle.std.specs.Prelude.{◌≡◌, ◌+◌, ◌<◌, ◌≤◌, length};
+ghost use Rattle.std.specs.Prelude.{◌≡◌, ◌+◌, ◌-◌, ◌^◌, ◌<◌, ◌≤◌, length, min};
 ghost use Rattle.picture_model.specs.Depths.{depth};
 ghost use Rattle.picture_model.specs.Limits.{IsRayWithin, IsShapeWithin};
 ghost use Rattle.ray_kernel.specs.Searches.{IsItemOf, IsReached, bounds_of, candidate, wanted};
@@ -59,7 +59,7 @@ impl<'a, P: PrimSource> Search<'a, P> {
         requires item { IsItemOf self.now item.now }
         ensures hit { result ≡ candidate self.now item.now }
         ensures tests { tests.old ≤ tests.new }
-        ensures one { tests.new ≤ tests.old + 1 }
+        ensures counted { tests.new ≡ min (tests.old + 1) (2 ^ 64 - 1) }
     {
         *tests = tests.saturating_add(1);
         let index = item.index as u64;

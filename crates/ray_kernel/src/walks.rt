@@ -1,4 +1,4 @@
-ghost use Rattle.std.specs.Prelude.{◌≡◌, ◌+◌, ◌<◌, ◌≤◌, [], ◌∷◌, ◌++◌, All, length};
+ghost use Rattle.std.specs.Prelude.{◌≡◌, ◌+◌, ◌-◌, ◌^◌, ◌<◌, ◌≤◌, ◌⊎◌, [], ◌∷◌, ◌++◌, All, IsSome, length, min};
 ghost use Rattle.std.specs.Option.{option_to_list};
 ghost use Rattle.arrayvec.specs.ArrayVec.{array_vec_len};
 ghost use Rattle.picture_model.specs.Limits.{IsRayWithin, IsShapeWithin};
@@ -21,6 +21,7 @@ pub(crate) fn run<P: PrimSource>(search: &Search<P>, tree: &Tree, tests: &mut u6
     ensures answer { result ≡ answer search.now }
     ensures tests { tests.old ≤ tests.new }
     ensures once { tests.new ≤ tests.old + length search.now.placed }
+    ensures counted { IsSome result → min (tests.old + 1) (2 ^ 64 - 1) ≤ tests.new }
 {
     let mut waiting = start(search, tree);
     let mut best = None;
@@ -61,6 +62,7 @@ fn step<'a, P: PrimSource>(
     ensures less { nodes_in waiting.new.items < nodes_in (waiting.old.items ++ branch.now ∷ []) }
     ensures tests { tests.old ≤ tests.new }
     ensures once { tests.new + leaves_in waiting.new.items ≤ tests.old + leaves_in (waiting.old.items ++ branch.now ∷ []) }
+    ensures counted { (result ≡ best) ⊎ (min (tests.old + 1) (2 ^ 64 - 1) ≤ tests.new) }
 {
     if is_beyond(branch.entry, &best) {
         return best;

@@ -1,4 +1,4 @@
-use Rattle.std.proofs.Common.{arith}
+use Rattle.std.proofs.Common.{arith, inl, refl}
 use Rattle.ray_kernel.proofs.Leaves.{leaves_leaf, leaves_passed}
 use Rattle.ray_kernel.proofs.SearchLaws.{fewer, fork_is, leaf_is, leaf_searched}
 use Rattle.ray_kernel.proofs.Steps.{few_wait, fewer_pushed, first_is, fork_pushed, leaves_pushed, passed_over, rest_is, some_nodes}
@@ -10,6 +10,7 @@ returns-then-is_beyond g c = record {
   less = fewer c.args.search.now c.args.waiting.now.items c.args.branch.now c.args.best c.requires.search;
   tests = omega arith;
   once = let passed = leaves_passed c.args.waiting.now.items c.args.branch.now in omega arith;
+  counted = inl refl;
 }
 
 pub bounds-branch-0 : goal.bounds-branch-0
@@ -84,7 +85,7 @@ pub returns-in-Leaf-clause-once : goal.returns-in-Leaf-clause-once
 returns-in-Leaf-clause-once g c =
     let some = some_nodes c.args.search.now c.args.waiting.now.items c.args.branch.now c.args.best c.requires.search in
     let leaf = leaves_leaf c.args.waiting.now.items c.args.branch.now c.in-Leaf.item _ (first_is c.args.branch.now.nodes.now _ _ some c.in-Leaf.is) in
-    let one = c.candidate.ensures.one in
+    let one = c.candidate.ensures.counted in
     omega arith
 
 pub returns-in-Fork-clause-once : goal.returns-in-Fork-clause-once
