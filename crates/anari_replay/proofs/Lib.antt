@@ -1,3 +1,3 @@
 -- Lemmas of this crate.
-mod ImageFacts
+mod OptionFacts
 mod WriteFacts

@@ -25,11 +25,11 @@ abbrev pub trace_fault : TraceError → Fault
 trace_fault (Broken fault) = Trace fault
 trace_fault trace-no-memory = Memory
 
--- before anything is written, a run does not end by a write; by a trace it does where the bytes that were read break the rule that the fault tells
+-- before anything is written, a replay does not end by its words or by a write; by a trace it does where the bytes that were read break the rule that the fault tells
 abbrev pub IsCauseBefore : Option (List ℕ) → Option (List ℕ) → Bool → Fault → Type 0
 IsCauseBefore old new ended (Trace fault) = IsRefused old new ended (Some fault)
 IsCauseBefore old new ended Write = ⊥
-IsCauseBefore old new ended Words = ⊤
+IsCauseBefore old new ended Words = ⊥
 IsCauseBefore old new ended Memory = ⊤
 IsCauseBefore old new ended Read = ⊤
 

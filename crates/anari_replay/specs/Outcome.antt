@@ -18,10 +18,6 @@ abbrev pub trace_fault_of : Result ⊤ Fault → Option TraceFault
 trace_fault_of (Err (Trace fault)) = Some fault
 trace_fault_of _ = None
 
--- one of the statuses that there are
-abbrev pub IsStatus : ℕ → Type 0
-IsStatus status = (status ≡ 0) ⊎ (status ≡ 2) ⊎ (status ≡ 3) ⊎ (status ≡ 4) ⊎ (status ≡ 5) ⊎ (status ≡ 6)
-
 -- with these the words or the trace were refused, or a read failed
 abbrev pub IsBeforeReplay : ℕ → Type 0
 IsBeforeReplay status = (status ≡ 2) ⊎ (status ≡ 4) ⊎ (status ≡ 6)

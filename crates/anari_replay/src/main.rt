@@ -1,8 +1,8 @@
-//! `anari_replay` replays a JSON trace of rendering calls and writes its images.
+//! `anari_replay` replays a JSON trace of rendering calls, and writes its images, its journal or a summary.
 #![tactic(auto)]
 
 mod fault;
-mod images;
+mod options;
 mod outcome;
 mod replay;
 #[cfg(test)]
@@ -26,7 +26,7 @@ fn main(rt: HostRuntime) -> io::Result<ExitCode> {
             let mut sink = HostSink::new(io::writer(&rt));
             run_plain(rt.alloc(), words.as_slice(), &mut source, &mut sink)
         }
-        Err(fault) => Outcome::without_replay(rt.alloc(), fault),
+        Err(fault) => Outcome::without_replay(rt.alloc(), Err(fault)),
     };
     if let Some(fault) = outcome.complaint() {
         // The status tells it too, so a closed standard error changes nothing.

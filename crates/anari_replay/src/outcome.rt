@@ -1,5 +1,5 @@
 //! What a run comes to.
-ghost use Rattle.std.specs.Prelude.{◌≡◌, [], Err};
+ghost use Rattle.std.specs.Prelude.{◌≡◌, []};
 ghost use Rattle.replay_core.specs.Views.{notices_of};
 ghost use Rattle.seq_model.specs.Builds.{builds};
 ghost use Rattle.seq_model.specs.Legal.{Legal};
@@ -31,7 +31,7 @@ pub struct Outcome {
 }
 
 impl Outcome {
-    /// The outcome of a replay whose images were written, or why they were not.
+    /// The outcome of a replay of which was written what was asked for, or why it was not.
     pub fn of(replayed: Replayed, written: Result<(), Fault>) -> Outcome
         ensures status { result.status ≡ status_of written }
         ensures fault { result.fault ≡ trace_fault_of written }
@@ -57,11 +57,11 @@ impl Outcome {
         }
     }
 
-    /// The outcome of a run that ended before it made a call.
+    /// The outcome of a run that made no call.
     #[tactic(auto, unfolding(seq_model::specs::Builds::builds, seq_model::specs::Legal::GoesOn, seq_model::specs::Legal::Legal, seq_model::specs::Told::told, seq_model::specs::Told::told_from))]
-    pub fn without_replay(alloc: Global, why: Fault) -> Outcome
-        ensures status { result.status ≡ status_of (Err why) }
-        ensures fault { result.fault ≡ trace_fault_of (Err why) }
+    pub fn without_replay(alloc: Global, ending: Result<(), Fault>) -> Outcome
+        ensures status { result.status ≡ status_of ending }
+        ensures fault { result.fault ≡ trace_fault_of ending }
         ensures unmade { result.history ≡ [] }
         ensures untold { notices_of result.told ≡ [] }
         ensures legal { Legal result.history }
@@ -75,7 +75,7 @@ impl Outcome {
             tests: 0,
             short: false,
         };
-        Outcome::of(nothing, Err(why))
+        Outcome::of(nothing, ending)
     }
 
     /// Why the run ended early, whose text is the line on standard error; `None` with status 0.

@@ -1,44 +1,48 @@
-//! The top call: words and a trace in, images out.
-ghost use Rattle.std.specs.Prelude.{◌≡◌, ◌↔◌, [], false, IsSome, IfErr, IfOk, IsErrOf, OnErr, OnOk};
+//! The top call: words and a trace in, what the words ask for out.
+ghost use Rattle.std.specs.Prelude.{◌≡◌, ◌↔◌, [], None, false, IsSome, IfErr, IfOk, IsErrOf, OnErr, OnOk};
 ghost use Rattle.std.specs.Io.KnownBytes.{Appends};
 ghost use Rattle.replay_core.specs.Reports.{report};
 ghost use Rattle.replay_core.specs.Views.{notices_of};
-ghost use Rattle.replay_core.specs.declared.prints.Print.TheVariants.{Images};
 ghost use Rattle.replay_io.specs.Faults.{Rose};
 ghost use Rattle.replay_io.specs.Streams.{AppendsPrefix};
 ghost use Rattle.seq_model.specs.Builds.{builds};
 ghost use Rattle.seq_model.specs.Legal.{Legal};
 ghost use Rattle.seq_model.specs.Told.{told};
-ghost use Rattle.anari_replay.specs.Words.{AreSolo};
+ghost use Rattle.table_text.specs.Tables.{description};
+ghost use Rattle.anari_replay.specs.Words.{commanded};
 ghost use Rattle.anari_replay.specs.Input.{IsRefused, IsReplay};
 ghost use Rattle.anari_replay.specs.Faults.{IsCauseAfter, IsCauseBefore};
-ghost use Rattle.anari_replay.specs.Outcome.{IsAfterReplay, IsBeforeReplay, IsInPart, IsStatus};
+ghost use Rattle.anari_replay.specs.Outcome.{IsAfterReplay, IsBeforeReplay, IsInPart};
+ghost use Rattle.anari_replay.specs.Output.{IsEnding, IsHistoryOf, MakesNothing, ReadsNothing, output_of};
 
 use crate::fault::Fault;
-use crate::images::images_of;
 use crate::outcome::Outcome;
-use crate::words::are_solo;
-use replay_core::{Replayed, solo};
+use crate::words::{Command, command_of};
+use replay_core::{Print, Replayed, solo};
 use replay_io::{Sink, Source, read_up_to, write_all};
+use report_text::report;
 use std::alloc::Global;
+use table_text::describe;
 use trace_text::read_trace;
 
 /// One byte more than a trace may have.
 const MOST_READ: usize = 67108865;
 
-/// Replays the trace that `source` gives on one thread, and writes its images to `sink`. The words are
-/// those after the program's name; `solo` is the one command. Waits for nobody and always returns.
+/// Does what the words after the program's name ask for: `solo` replays the trace that `source` gives on
+/// one thread and writes what is printed of it to `sink`, `describe` writes the tables of kinds and
+/// parameters. Waits for nobody and always returns.
 pub fn run_plain<S: Source, K: Sink>(
     alloc: Global,
     words: &[String],
     source: &mut S,
     sink: &mut K,
 ) -> Outcome
-    ensures known { IsStatus result.status }
+    // Status 2 comes exactly where the words give no command, and each command has its own statuses.
+    ensures known { IsEnding (commanded words.now) result.status }
+    ensures words { (result.status ≡ 2) ↔ (commanded words.now ≡ None) }
 
-    // Status 2 comes exactly for other words, and nothing is read then.
-    ensures words { (result.status ≡ 2) ↔ ¬ AreSolo words.now }
-    ensures unread { result.status ≡ 2 → source.new ≡ source.old }
+    // Only a replay reads.
+    ensures unread { ReadsNothing (commanded words.now) → source.new ≡ source.old }
 
     // A fault is one that the source or the sink counted in this call.
     ensures read_fault { result.status ≡ 4 → Rose (S.faults source.old) (S.faults source.new) }
@@ -52,36 +56,104 @@ pub fn run_plain<S: Source, K: Sink>(
     // The history is that of the trace on one thread. With every status it is legal, and told and
     // builds are its own.
     ensures replayed { IsAfterReplay result.status
-        → IsReplay (S.left source.old) (S.left source.new) (S.ended source.new) result.history }
+        → IsHistoryOf (commanded words.now) (S.left source.old) (S.left source.new) (S.ended source.new) result.history }
     ensures legal { Legal result.history }
     ensures told { notices_of result.told ≡ told result.history }
     ensures builds { result.builds ≡ builds result.history }
 
-    // What is written are its images, or some of their first bytes.
+    // What is written is the command's output, or some of its first bytes.
     ensures written { result.status ≡ 0
-        → Appends (K.written sink.old) (K.written sink.new) (report Images result.history result.builds) }
+        → Appends (K.written sink.old) (K.written sink.new) (output_of (commanded words.now) result.history result.builds) }
     ensures written_in_part { IsInPart result.status
-        → AppendsPrefix (K.written sink.old) (K.written sink.new) (report Images result.history result.builds) }
+        → AppendsPrefix (K.written sink.old) (K.written sink.new) (output_of (commanded words.now) result.history result.builds) }
 
-    // Nothing is made or written where the words or the trace are refused or a read failed.
+    // Nothing is made where no replay is asked for, and nothing made or written where the words or the
+    // trace are refused or a read failed.
+    ensures uncalled { MakesNothing (commanded words.now) → (result.history ≡ []) × (notices_of result.told ≡ []) }
     ensures unmade { IsBeforeReplay result.status → result.history ≡ [] }
     ensures untold { IsBeforeReplay result.status → notices_of result.told ≡ [] }
     ensures silent { IsBeforeReplay result.status → sink.new ≡ sink.old }
 {
-    match replay(alloc, words, source) {
+    run_command(alloc, command_of(words), source, sink)
+}
+
+/// Does a command, or refuses the words where there is none.
+fn run_command<S: Source, K: Sink>(
+    alloc: Global,
+    command: Option<Command>,
+    source: &mut S,
+    sink: &mut K,
+) -> Outcome
+    ensures known { IsEnding command result.status }
+    ensures words { (result.status ≡ 2) ↔ (command ≡ None) }
+    ensures unread { ReadsNothing command → source.new ≡ source.old }
+    ensures read_fault { result.status ≡ 4 → Rose (S.faults source.old) (S.faults source.new) }
+    ensures write_fault { result.status ≡ 5 → Rose (K.faults sink.old) (K.faults sink.new) }
+    ensures refused { result.status ≡ 6
+        → IsRefused (S.left source.old) (S.left source.new) (S.ended source.new) result.fault }
+    ensures fault { IsSome result.fault ↔ (result.status ≡ 6) }
+    ensures replayed { IsAfterReplay result.status
+        → IsHistoryOf command (S.left source.old) (S.left source.new) (S.ended source.new) result.history }
+    ensures legal { Legal result.history }
+    ensures told { notices_of result.told ≡ told result.history }
+    ensures builds { result.builds ≡ builds result.history }
+    ensures written { result.status ≡ 0
+        → Appends (K.written sink.old) (K.written sink.new) (output_of command result.history result.builds) }
+    ensures written_in_part { IsInPart result.status
+        → AppendsPrefix (K.written sink.old) (K.written sink.new) (output_of command result.history result.builds) }
+    ensures uncalled { MakesNothing command → (result.history ≡ []) × (notices_of result.told ≡ []) }
+    ensures unmade { IsBeforeReplay result.status → result.history ≡ [] }
+    ensures untold { IsBeforeReplay result.status → notices_of result.told ≡ [] }
+    ensures silent { IsBeforeReplay result.status → sink.new ≡ sink.old }
+{
+    match command {
+        Some(Command::Solo(print)) => run_solo(alloc, print, source, sink),
+        Some(Command::Describe) => {
+            let written = write_tables(alloc, sink);
+            Outcome::without_replay(alloc, written)
+        }
+        None => Outcome::without_replay(alloc, Err(Fault::Words)),
+    }
+}
+
+/// Replays the trace that `source` gives on one thread, and writes what is printed of it.
+fn run_solo<S: Source, K: Sink>(
+    alloc: Global,
+    print: Print,
+    source: &mut S,
+    sink: &mut K,
+) -> Outcome
+    ensures known { IsEnding (Some (Command.Solo print)) result.status }
+    ensures read_fault { result.status ≡ 4 → Rose (S.faults source.old) (S.faults source.new) }
+    ensures write_fault { result.status ≡ 5 → Rose (K.faults sink.old) (K.faults sink.new) }
+    ensures refused { result.status ≡ 6
+        → IsRefused (S.left source.old) (S.left source.new) (S.ended source.new) result.fault }
+    ensures fault { IsSome result.fault ↔ (result.status ≡ 6) }
+    ensures replayed { IsAfterReplay result.status
+        → IsReplay (S.left source.old) (S.left source.new) (S.ended source.new) result.history }
+    ensures legal { Legal result.history }
+    ensures told { notices_of result.told ≡ told result.history }
+    ensures builds { result.builds ≡ builds result.history }
+    ensures written { result.status ≡ 0
+        → Appends (K.written sink.old) (K.written sink.new) (report print result.history result.builds) }
+    ensures written_in_part { IsInPart result.status
+        → AppendsPrefix (K.written sink.old) (K.written sink.new) (report print result.history result.builds) }
+    ensures unmade { IsBeforeReplay result.status → result.history ≡ [] }
+    ensures untold { IsBeforeReplay result.status → notices_of result.told ≡ [] }
+    ensures silent { IsBeforeReplay result.status → sink.new ≡ sink.old }
+{
+    match replay(alloc, source) {
         Ok(replayed) => {
-            let written = write_images(alloc, &replayed, sink);
+            let written = write_report(alloc, print, &replayed, sink);
             Outcome::of(replayed, written)
         }
-        Err(why) => Outcome::without_replay(alloc, why),
+        Err(why) => Outcome::without_replay(alloc, Err(why)),
     }
 }
 
 /// The replay of the trace that `source` gives. Each cause of an early end is found before anything
 /// after it is done.
-fn replay<S: Source>(alloc: Global, words: &[String], source: &mut S) -> Result<Replayed, Fault>
-    ensures words { IsErrOf result Fault.Words ↔ ¬ AreSolo words.now }
-    ensures unread { IsErrOf result Fault.Words → source.new ≡ source.old }
+fn replay<S: Source>(alloc: Global, source: &mut S) -> Result<Replayed, Fault>
     ensures read_fault { IsErrOf result Fault.Read → Rose (S.faults source.old) (S.faults source.new) }
     ensures cause { IfErr result
         (IsCauseBefore (S.left source.old) (S.left source.new) (S.ended source.new)) }
@@ -91,22 +163,25 @@ fn replay<S: Source>(alloc: Global, words: &[String], source: &mut S) -> Result<
     ensures told { IfOk result (λ replayed. notices_of replayed.told ≡ told replayed.history) }
     ensures builds { IfOk result (λ replayed. replayed.builds ≡ builds replayed.history) }
 {
-    if !are_solo(words) {
-        return Err(Fault::Words);
-    }
     let bytes = read_up_to(alloc, source, MOST_READ)?;
     let trace = read_trace(alloc, bytes.as_slice())?;
     Ok(solo(alloc, &trace))
 }
 
-/// Writes the images of a replay, unless it was short of memory.
-fn write_images<K: Sink>(alloc: Global, replayed: &Replayed, sink: &mut K) -> Result<(), Fault>
-    requires { Legal replayed.now.history }
+/// Writes what is printed of a replay, unless it was short of memory.
+fn write_report<K: Sink>(
+    alloc: Global,
+    print: Print,
+    replayed: &Replayed,
+    sink: &mut K,
+) -> Result<(), Fault>
+    requires legal { Legal replayed.now.history }
+    requires told { notices_of replayed.now.told ≡ told replayed.now.history }
     ensures whole { OnOk result (replayed.now.short ≡ false) }
     ensures written { OnOk result (Appends (K.written sink.old) (K.written sink.new)
-        (report Images replayed.now.history replayed.now.builds)) }
+        (report print replayed.now.history replayed.now.builds)) }
     ensures in_part { OnErr result (AppendsPrefix (K.written sink.old) (K.written sink.new)
-        (report Images replayed.now.history replayed.now.builds)) }
+        (report print replayed.now.history replayed.now.builds)) }
     ensures whole_in_part { IsErrOf result Fault.Write → replayed.now.short ≡ false }
     ensures write_fault { IsErrOf result Fault.Write → Rose (K.faults sink.old) (K.faults sink.new) }
     ensures cause { IfErr result IsCauseAfter }
@@ -114,7 +189,19 @@ fn write_images<K: Sink>(alloc: Global, replayed: &Replayed, sink: &mut K) -> Re
     if replayed.short {
         return Err(Fault::Memory);
     }
-    let images = images_of(alloc, &replayed.history)?;
-    write_all(sink, images.as_slice())?;
+    let text = report(alloc, print, replayed)?;
+    write_all(sink, text.as_slice())?;
+    Ok(())
+}
+
+/// Writes the tables of kinds and parameters.
+fn write_tables<K: Sink>(alloc: Global, sink: &mut K) -> Result<(), Fault>
+    ensures written { OnOk result (Appends (K.written sink.old) (K.written sink.new) description) }
+    ensures in_part { OnErr result (AppendsPrefix (K.written sink.old) (K.written sink.new) description) }
+    ensures write_fault { IsErrOf result Fault.Write → Rose (K.faults sink.old) (K.faults sink.new) }
+    ensures cause { IfErr result IsCauseAfter }
+{
+    let tables = describe(alloc)?;
+    write_all(sink, tables.as_slice())?;
     Ok(())
 }

@@ -1,5 +1,5 @@
-//! What no clause says: that the images are the right ones, and that an answer other than want of
-//! memory comes where there is memory.
+//! What no clause says: that the images and the lines are the right ones, and that an answer other than
+//! want of memory comes where there is memory.
 
 ghost use Rattle.std.specs.Prelude.{◌<◌};
 
@@ -20,13 +20,18 @@ fn words_of(alloc: Global, given: &[&str]) -> Result<Vec<String>, AllocError> {
     Ok(words)
 }
 
-/// What `solo` comes to on these bytes, and the sink.
-pub fn solo(alloc: Global, bytes: &[u8]) -> Result<(Outcome, MemorySink), AllocError> {
-    let words = words_of(alloc, &["solo"])?;
+/// What these words come to on these bytes, and the sink.
+fn run(alloc: Global, given: &[&str], bytes: &[u8]) -> Result<(Outcome, MemorySink), AllocError> {
+    let words = words_of(alloc, given)?;
     let mut source = MemorySource::new(bytes.to_vec(alloc)?, Vec::new(alloc));
     let mut sink = MemorySink::new(alloc, Vec::new(alloc));
     let outcome = run_plain(alloc, words.as_slice(), &mut source, &mut sink);
     Ok((outcome, sink))
+}
+
+/// What `solo` comes to on these bytes, and the sink.
+pub fn solo(alloc: Global, bytes: &[u8]) -> Result<(Outcome, MemorySink), AllocError> {
+    run(alloc, &["solo"], bytes)
 }
 
 fn at(rule: u8, phase: u32, caller: u32, call: u32) -> TraceFault {
@@ -87,12 +92,29 @@ fn what_happened_and_was_told_is_counted(rt: HostRuntime) -> Result<(), Fail> {
 
 #[test]
 fn other_words_are_refused_and_nothing_is_read(rt: HostRuntime) -> Result<(), Fail> {
-    let cases: [&[&str]; 5] = [
-        &["paint"],
-        &["solo", "--print"],
-        &["solo", "solo"],
-        &["Solo"],
+    let cases: [&[&str]; 22] = [
         &[],
+        &[""],
+        &["paint"],
+        &["Solo"],
+        &["--help"],
+        &["--print", "images"],
+        &["solo", "solo"],
+        &["solo", "--"],
+        &["solo", "--help"],
+        &["solo", "--print"],
+        &["solo", "--print="],
+        &["solo", "--print", ""],
+        &["solo", "--print", "Images"],
+        &["solo", "--print=images="],
+        &["solo", "--print", "=images"],
+        &["solo", "-print", "images"],
+        &["solo", "--print", "images", "x"],
+        &["solo", "--print", "images", "--print", "images"],
+        &["solo", "--print=images", "--print=journal"],
+        &["solo", "--workers", "4"],
+        &["describe", "x"],
+        &["describe", "--print=images"],
     ];
     for given in cases {
         let words = words_of(rt.alloc(), given)?;
@@ -102,6 +124,79 @@ fn other_words_are_refused_and_nothing_is_read(rt: HostRuntime) -> Result<(), Fa
         assert_eq!(rt; outcome.status, 2, "{given:?}");
         assert_eq!(rt; source.left(), b"abc".as_slice());
         assert!(rt; sink.written().is_empty());
+    }
+    Ok(())
+}
+
+/// What the summary of the triangle's replay is.
+const SUMMARY: &str = "entries=33 images=1 deleted=2 builds=1\n";
+
+#[test]
+fn the_words_choose_what_is_printed(rt: HostRuntime) -> Result<(), Fail> {
+    // Each list of words, how what is printed begins and how it ends.
+    let journal =
+        "1 0 new_array SCALAR_VEC3 3 12 captured 7 0000feff0000feff00000000000002000000feff000000000000feff0000020000000000 -> made 1\n2 0 new geometry triangle -> made 2\n3 0 set 2 vertex.position ARRAY1D 0100000000000000 -> done\n";
+    let cases: [(&[&str], &str, &str); 7] = [
+        (&["solo"], "P6\n4 4\n255\n", ""),
+        (&["solo", "--print", "images"], "P6\n4 4\n255\n", ""),
+        (&["solo", "--print=images"], "P6\n4 4\n255\n", ""),
+        (
+            &["solo", "--print", "journal"],
+            journal,
+            "\n33 - close -> noted\n",
+        ),
+        (
+            &["solo", "--print=journal"],
+            journal,
+            "\n32 0 unmap_frame 9 31 -> done\n33 - close -> noted\n",
+        ),
+        (&["solo", "--print", "summary"], SUMMARY, SUMMARY),
+        (&["solo", "--print=summary"], SUMMARY, SUMMARY),
+    ];
+    for (given, first, last) in cases {
+        let (outcome, sink) = run(rt.alloc(), given, TRIANGLE.as_bytes())?;
+        assert_eq!(rt; outcome.status, 0, "{given:?}");
+        assert!(rt; sink.written().starts_with(first.as_bytes()), "{given:?}");
+        assert!(rt; sink.written().ends_with(last.as_bytes()), "{given:?}");
+    }
+    Ok(())
+}
+
+#[test]
+fn a_trace_without_phases_is_closed(rt: HostRuntime) -> Result<(), Fail> {
+    let bytes = br#"{"trace":1,"phases":[]}"#;
+    let cases: [(&[&str], &str); 3] = [
+        (&["solo"], ""),
+        (&["solo", "--print=journal"], "1 - close -> noted\n"),
+        (
+            &["solo", "--print=summary"],
+            "entries=1 images=0 deleted=0 builds=0\n",
+        ),
+    ];
+    for (given, text) in cases {
+        let (outcome, sink) = run(rt.alloc(), given, bytes)?;
+        assert_eq!(rt; outcome.status, 0, "{given:?}");
+        assert_eq!(rt; outcome.history.len(), 1, "{given:?}");
+        assert!(rt; sink.written() == text.as_bytes(), "{given:?}");
+    }
+    Ok(())
+}
+
+#[test]
+fn the_tables_are_written_and_nothing_is_read(rt: HostRuntime) -> Result<(), Fail> {
+    let words = words_of(rt.alloc(), &["describe"])?;
+    let first =
+        "camera orthographic\n  position SCALAR_VEC3 default 0 0 0\n  direction SCALAR_VEC3 default 0 0 -65536\n";
+    // The calls of the sink that fail, and the status.
+    let cases: [(&[u64], u8); 2] = [(&[], 0), (&[1], 5)];
+    for (writes, status) in cases {
+        let mut source = MemorySource::new(b"abc".to_vec(rt.alloc())?, [1].to_vec(rt.alloc())?);
+        let mut sink = MemorySink::new(rt.alloc(), writes.to_vec(rt.alloc())?);
+        let outcome = run_plain(rt.alloc(), words.as_slice(), &mut source, &mut sink);
+        assert_eq!(rt; outcome.status, status);
+        assert_eq!(rt; source.left(), b"abc".as_slice());
+        assert!(rt; outcome.history.is_empty() && outcome.told.is_empty());
+        assert_eq!(rt; sink.written().starts_with(first.as_bytes()), status == 0);
     }
     Ok(())
 }

@@ -1,22 +1,46 @@
-use Rattle.std.proofs.Common.{ℕ, subst, sym}
-use Rattle.replay_core.specs.Reports.{report}
-use Rattle.replay_core.specs.declared.prints.Print.TheVariants.{Images}
+use Rattle.std.proofs.Common.{◌≡◌, Option, None, subst}
+use Rattle.std.specs.Prelude.{◌↔◌, []}
+use Rattle.std.specs.Io.KnownBytes.{Appends}
+use Rattle.replay_core.specs.Views.{notices_of}
 use Rattle.replay_io.specs.Streams.{AppendsPrefix}
-use Rattle.seq_model.specs.Histories.{History}
-use Rattle.anari_replay.specs.Input.{IsReplay}
 use Rattle.anari_replay.specs.Outcome.{IsAfterReplay, IsInPart}
-use Rattle.anari_replay.proofs.WriteFacts.{after_replay, in_part}
+use Rattle.anari_replay.specs.Output.{IsEnding, IsHistoryOf, MakesNothing, ReadsNothing, output_of}
+use Rattle.anari_replay.specs.declared.words.Command.{Command}
 use Rattle.anari_replay.proofs.replay.run_plain.Goals as goal
 
-pub returns-in-Ok-clause-replayed : goal.returns-in-Ok-clause-replayed
-returns-in-Ok-clause-replayed g c = λ after.
-    let Is : History → Type 0 = IsReplay (g.S.Source.left c.args.source.now) (g.S.Source.left c.replay.new.source) (g.S.Source.ended c.replay.new.source) in
-    let whole = after_replay c.write_images-written.result _ c.write_images-written.ensures.whole c.write_images-written.ensures.whole_in_part
-    (subst IsAfterReplay c.of.ensures.status after) in
-    subst Is (sym c.of.ensures.history) (c.in-Ok.ensures.replayed whole)
+pub returns-clause-known : goal.returns-clause-known
+returns-clause-known g c = subst (λ (command : Option Command). IsEnding command c.run_command.result.status) c.command_of.ensures c.run_command.ensures.known
 
-pub returns-in-Ok-clause-written_in_part : goal.returns-in-Ok-clause-written_in_part
-returns-in-Ok-clause-written_in_part g c = λ part.
-    let Is : History → ℕ → Type 0 = λ history builds. AppendsPrefix (g.K.Sink.written c.args.sink.now) (g.K.Sink.written c.write_images-written.new.sink) (report Images history builds) in
-    let written = in_part c.write_images-written.result _ c.write_images-written.ensures.in_part (subst IsInPart c.of.ensures.status part) in
-    subst (Is c.of.result.history) (sym c.of.ensures.builds) (subst (λ history. Is history c.in-Ok.replayed.builds) (sym c.of.ensures.history) written)
+pub returns-clause-words : goal.returns-clause-words
+returns-clause-words g c =
+    subst (λ (command : Option Command). (c.run_command.result.status ≡ 2) ↔ (command ≡ None)) c.command_of.ensures c.run_command.ensures.words
+
+pub returns-clause-unread : goal.returns-clause-unread
+returns-clause-unread g c =
+    subst (λ (command : Option Command). ReadsNothing command → c.run_command.new.source ≡ c.args.source.now) c.command_of.ensures c.run_command.ensures.unread
+
+pub returns-clause-replayed : goal.returns-clause-replayed
+returns-clause-replayed g c =
+    subst
+    (λ (command : Option Command). IsAfterReplay c.run_command.result.status →
+    IsHistoryOf command (g.S.Source.left c.args.source.now) (g.S.Source.left c.run_command.new.source) (g.S.Source.ended c.run_command.new.source) c.run_command.result.history)
+    c.command_of.ensures c.run_command.ensures.replayed
+
+pub returns-clause-written : goal.returns-clause-written
+returns-clause-written g c =
+    subst
+    (λ (command : Option Command). c.run_command.result.status ≡ 0 →
+    Appends (g.K.Sink.written c.args.sink.now) (g.K.Sink.written c.run_command.new.sink) (output_of command c.run_command.result.history c.run_command.result.builds))
+    c.command_of.ensures c.run_command.ensures.written
+
+pub returns-clause-written_in_part : goal.returns-clause-written_in_part
+returns-clause-written_in_part g c =
+    subst
+    (λ (command : Option Command). IsInPart c.run_command.result.status →
+    AppendsPrefix (g.K.Sink.written c.args.sink.now) (g.K.Sink.written c.run_command.new.sink) (output_of command c.run_command.result.history c.run_command.result.builds))
+    c.command_of.ensures c.run_command.ensures.written_in_part
+
+pub returns-clause-uncalled : goal.returns-clause-uncalled
+returns-clause-uncalled g c =
+    subst (λ (command : Option Command). MakesNothing command → (c.run_command.result.history ≡ []) × (notices_of c.run_command.result.told ≡ [])) c.command_of.ensures
+    c.run_command.ensures.uncalled
