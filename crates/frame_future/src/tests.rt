@@ -195,7 +195,7 @@ fn nothing_is_shown_at_first(rt: HostRuntime) -> Result<(), Fail> {
 }
 
 #[test]
-fn a_flight_begins_and_hands_out_a_seat(rt: HostRuntime) -> Result<(), Fail> {
+fn a_frame_is_in_flight_once_its_flight_begins(rt: HostRuntime) -> Result<(), Fail> {
     let frame = Handle(9);
     let mut frames = Frames::new(rt.alloc());
     let scene = half_red(&rt, rt.alloc(), 17, 1)?;
@@ -211,5 +211,53 @@ fn a_flight_begins_and_hands_out_a_seat(rt: HostRuntime) -> Result<(), Fail> {
     assert!(rt; begun.is_ok());
     assert_eq!(rt; frames.phase_of(frame), Phase::Flight(5));
     assert!(rt; !frames.mapped(frame));
+    Ok(())
+}
+
+#[test]
+fn a_frame_in_flight_is_not_mapped(rt: HostRuntime) -> Result<(), Fail> {
+    let frame = Handle(9);
+    let mut frames = Frames::new(rt.alloc());
+    let scene = half_red(&rt, rt.alloc(), 17, 1)?;
+    let (claims, seat) = claims_of(rt.alloc(), &scene).map_err(|_| "out of memory")?;
+    let channels = [true, false, false, false];
+    let begun = frames.begin(rt.alloc(), frame, 5, claims, seat, channels);
+    assert!(rt; begun.is_ok());
+    let (given, of) = frames.last_look(5);
+    assert!(rt; given == 0 && of == 2);
+    let mapped = frames.map(rt.alloc(), frame, Channel::Color, 8);
+    assert!(rt; matches!(mapped, Err(Refused::InFlight { given: 0, of: 2 })));
+    Ok(())
+}
+
+#[test]
+fn a_flight_hands_out_a_seat(rt: HostRuntime) -> Result<(), Fail> {
+    let mut frames = Frames::new(rt.alloc());
+    let scene = half_red(&rt, rt.alloc(), 17, 1)?;
+    let (claims, seat) = claims_of(rt.alloc(), &scene).map_err(|_| "out of memory")?;
+    let channels = [true, false, false, false];
+    let begun = frames.begin(rt.alloc(), Handle(9), 5, claims, seat, channels);
+    assert!(rt; begun.is_ok());
+    let out = frames.hand_out(rt.alloc(), 5);
+    assert!(rt; matches!(out, Ok(Some(_))));
+    Ok(())
+}
+
+#[test]
+fn a_flight_that_is_discarded_before_any_claim_leaves(rt: HostRuntime) -> Result<(), Fail> {
+    let frame = Handle(9);
+    let mut frames = Frames::new(rt.alloc());
+    let scene = half_red(&rt, rt.alloc(), 17, 1)?;
+    let (claims, seat) = claims_of(rt.alloc(), &scene).map_err(|_| "out of memory")?;
+    let channels = [true, false, false, false];
+    let begun = frames.begin(rt.alloc(), frame, 5, claims, seat, channels);
+    assert!(rt; begun.is_ok());
+    frames.discard(frame);
+    assert_eq!(rt; frames.phase_of(frame), Phase::Empty);
+    let left = Some(Ended {
+        ticket: 5,
+        left: true,
+    });
+    assert!(rt; frames.next_ended(0) == left);
     Ok(())
 }
