@@ -47,7 +47,7 @@ alike_set old now place f g within here count alike all k d l = elim (cases_eq k
 ]
 
 -- they count as much, and have the same tickets
-counts : (p : Flying → Bool) (old now : List Flying) → length now ≡ length old → ((k : ℕ) (d : Flying) → k < length old → p (get_or now k d) ≡ p (get_or old k d))
+pub counts : (p : Flying → Bool) (old now : List Flying) → length now ≡ length old → ((k : ℕ) (d : Flying) → k < length old → p (get_or now k d) ≡ p (get_or old k d))
     → count_by p now ≡ count_by p old
 counts p [] [] count same = refl
 counts p [] (g ∷ now) count same = absurd (omega (arith, count))

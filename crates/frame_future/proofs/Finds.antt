@@ -32,7 +32,7 @@ mapped_some s frame p is = ap (λ o. option_map_or is_lent o false) is
 pub mapped_none : (s : Future) (frame : ℕ) → shown_by s frame ≡ None → is_mapped s frame ≡ false
 mapped_none s frame is = ap (λ o. option_map_or is_lent o false) is
 
-same_number : (n : ℕ) → (n == n) ≡ true
+pub same_number : (n : ℕ) → (n == n) ≡ true
 same_number n = grind arith
 
 -- a flight that begins is its frame's

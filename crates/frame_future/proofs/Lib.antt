@@ -5,3 +5,4 @@ pub mod Kept
 pub mod Finds
 pub mod Changes
 pub mod Endings
+pub mod DoneLaws

@@ -9,11 +9,15 @@
 mod flight;
 mod frames;
 mod held;
+mod laws;
 mod mapped;
 mod phase;
 mod picture;
+#[cfg(test)]
+mod tests;
 mod tiles;
 
 pub use frames::Frames;
+pub use laws::an_ended_flight_is_done;
 pub use mapped::MappedFrame;
 pub use phase::{Ended, Phase};

@@ -1,0 +1,3 @@
+mod CapturedFacts
+mod Orders
+mod WorldFacts

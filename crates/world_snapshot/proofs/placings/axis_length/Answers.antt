@@ -1,0 +1,36 @@
+use Rattle.std.proofs.Common.{ℤ, pos, ◌∙◌, w64, unsigned_abs, ap, arith, rules}
+use Rattle.std.proofs.lemmas.Int.{to_z-of_z, to_z_pos}
+use Rattle.fx_math.specs.declared.vectors.Vec3.{Vec3}
+use Rattle.fx_math.specs.Mat34.{axis_length}
+use Rattle.fx_math.specs.Root.{isqrt}
+use Rattle.fx_math.specs.Vec3.{dot}
+use Rattle.fx_math.proofs.Lengths.{dot_self}
+use Rattle.fx_math.proofs.Placing.{axis_small}
+use Rattle.world_snapshot.proofs.placings.axis_length.Goals as goal
+use mir.Syntax.{w128}
+
+pub dot-requires-clause-first : goal.dot-requires-clause-first
+dot-requires-clause-first c = omega arith
+
+pub dot-requires-clause-second : goal.dot-requires-clause-second
+dot-requires-clause-second c = omega arith
+
+pub overflow_cast-dot : goal.overflow_cast-dot
+overflow_cast-dot c =
+    let e = c.dot.ensures.value ∙ dot_self c.column-axis.result in
+    rw (to_z-of_z w128 c.dot.result (search rules), e) (tt, search rules)
+
+pub overflow_cast-result : goal.overflow_cast-result
+overflow_cast-result c =
+    let small = axis_small c.column-axis.result c.dot.result c.isqrt.result (search rules) c.column-axis.ensures.size c.dot.ensures.value c.isqrt.ensures.greatest in
+    search (rules, small)
+
+pub returns : goal.returns
+unfolding axis_length
+returns c =
+    let small = axis_small c.column-axis.result c.dot.result c.isqrt.result (search rules) c.column-axis.ensures.size c.dot.ensures.value c.isqrt.ensures.greatest in
+    let square = to_z-of_z w128 c.dot.result (search rules) ∙ c.dot.ensures.value ∙ ap (λ (a : Vec3). dot a a) c.column-axis.ensures.value in
+    record {
+      is = to_z_pos w64 c.isqrt.result (omega arith) ∙ ap pos (c.isqrt.ensures.value ∙ ap (λ (z : ℤ). isqrt (unsigned_abs z)) square);
+      size = rw (to_z_pos w64 c.isqrt.result (omega arith)) small;
+    }

@@ -1,0 +1,5 @@
+pub mod Held
+pub mod Captured
+pub mod Rising
+pub mod Worlds
+pub mod Works

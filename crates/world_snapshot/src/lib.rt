@@ -1,0 +1,21 @@
+//! Worlds prepared for rendering. A prepared world shares the blocks of the arrays that its walk visits, and reads each primitive from
+//! them when it is asked for: what is mapped, unmapped or committed later does not show in it.
+#![tactic(auto)]
+
+mod arrays;
+mod geometries;
+mod lights;
+mod placings;
+mod prepared;
+mod readers;
+mod rows;
+mod searches;
+mod surfaces;
+#[cfg(test)]
+mod tests;
+#[cfg(test)]
+mod tests_store;
+mod works;
+
+pub use prepared::{Prepared, prepare};
+pub use works::Work;
