@@ -1,10 +1,9 @@
 -- Arrays and geometries as they are captured.
-use Rattle.std.proofs.Common.{◌≡◌, ℕ, zero, suc, ◌+◌, ◌≤◌, List, [], ◌∷◌, Option, Some, None, codes, map, refl, ap, sym, ◌∙◌}
+use Rattle.std.proofs.Common.{◌≡◌, ℕ, zero, suc, ◌+◌, List, [], ◌∷◌, Option, Some, None, codes, map, refl, ap, sym, ◌∙◌}
 use Rattle.std.specs.List.{enumerate_from, range_with_len}
 use Rattle.std.specs.Option.{option_and_then, option_map, option_map_or}
 use Rattle.std.proofs.lemmas.Simd.{map-map}
 use Rattle.byte_view.specs.Elements.{Elements}
-use Rattle.fx_math.specs.declared.scene.Primitive.{Primitive}
 use Rattle.fx_math.specs.declared.transforms.Mat34.{Mat34}
 use Rattle.kind_tables.specs.SceneObjects.{Block, SceneObject, SceneObjects, id_in, object_at, scalar_of, scalars_of, value_at}
 use Rattle.kind_tables.specs.Scenes.{surface_primitives}
@@ -14,7 +13,7 @@ use Rattle.scene_read.proofs.ShownFacts.{live_shapes, surface_read}
 use Rattle.scene_read.specs.Reading.{content_of, lent}
 use Rattle.scene_read.specs.Shown.{finish_of, finished, live_in}
 use Rattle.scene_read.specs.Starts.{visited_object}
-use Rattle.world_snapshot.specs.Captured.{Surface, primitive_of, primitives_of, shape_at, shape_count, shapes_in}
+use Rattle.world_snapshot.specs.Captured.{Surface, primitives_of, shape_at, shape_count, shapes_in}
 use Rattle.world_snapshot.specs.declared.geometries.Geometry.{Geometry}
 
 -- the bytes of an array

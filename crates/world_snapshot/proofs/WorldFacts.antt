@@ -1,10 +1,9 @@
 -- A prepared world.
-use Rattle.std.proofs.Common.{◌≡◌, ℕ, zero, suc, ◌+◌, ◌<◌, ◌≤◌, ◌^◌, Bool, true, false, List, [], ◌∷◌, All, Option, Some, None, arith, refl, ap, sym, ◌∙◌, length, map}
+use Rattle.std.proofs.Common.{◌≡◌, ℕ, ◌≤◌, ◌^◌, Bool, true, false, List, All, Option, Some, None, arith, refl, ap, sym, ◌∙◌, length}
 use Rattle.std.specs.Prelude.{cond, nat_lt, IfOk, Result, Ok, Err}
 use Rattle.std.proofs.lemmas.List.Elements.{All-map}
-use Rattle.std.specs.Option.{option_map, option_or}
+use Rattle.std.specs.Option.{option_or}
 use Rattle.std.proofs.lemmas.Bool.{ltb-false}
-use Rattle.dev_types.specs.declared.refusals.Refused.{Refused}
 use Rattle.dev_types.specs.declared.refusals.Refused.TheVariants.{TooMany}
 use Rattle.fx_math.specs.declared.scene.Place.{Place}
 use Rattle.fx_math.specs.declared.scene.Primitive.{Primitive}

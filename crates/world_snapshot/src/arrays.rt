@@ -1,6 +1,5 @@
 //! The arrays of a geometry, as they stood when they were captured.
-ghost use Rattle.std.specs.Prelude.{◌≡◌, ◌≤◌, ◌^◌, IsTrue, IfOk, length};
-ghost use Rattle.dev_types.specs.Blocks.{FitsBlock};
+ghost use Rattle.std.specs.Prelude.{◌≡◌, ◌≤◌, ◌^◌, IsTrue, IfOk};
 ghost use Rattle.dev_types.specs.Bounded.{is_name};
 ghost use Rattle.scene_read.specs.Reading.{IsCounted, array_in, content_of};
 

@@ -1,11 +1,9 @@
 //! The primitives of a world, each by its surface and its number.
-ghost use Rattle.std.specs.Prelude.{◌≡◌, ◌++◌, ◌<◌, ◌≤◌, ◌^◌, ◌↔◌, IsTrue, OnOk, IfOk, length, true};
+ghost use Rattle.std.specs.Prelude.{◌≡◌, ◌++◌, ◌<◌, ◌^◌, ◌↔◌, IsTrue, OnOk, IfOk};
 ghost use Rattle.kind_tables.specs.Scenes.{primitives_at, primitives_of as all_primitives, surface_primitives};
-ghost use Rattle.picture_model.specs.Hits.{is_lower};
 ghost use Rattle.picture_model.specs.Limits.{IsBetween, IsPoint, IsShapeWithin};
 ghost use Rattle.scene_read.specs.Starts.{all_seen, seen, visited_object};
 ghost use Rattle.world_snapshot.specs.Captured.{primitives_of};
-ghost use Rattle.world_snapshot.specs.Rising.{AreRising};
 ghost use Rattle.world_snapshot.specs.Worlds.{AreShapesWithin};
 
 use crate::geometries::captured_geometry;

@@ -1,6 +1,5 @@
 //! The primitive at a place.
 ghost use Rattle.std.specs.Prelude.{◌≡◌, ◌≤◌, length, true};
-ghost use Rattle.std.specs.Option.{option_and_then, option_map};
 ghost use Rattle.picture_model.specs.Hits.{is_lower};
 ghost use Rattle.picture_model.specs.Shading.{is_same_place, primitive_at};
 ghost use Rattle.world_snapshot.specs.Rising.{AreLower, AreNotLower, AreRising};

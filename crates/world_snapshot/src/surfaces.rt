@@ -1,6 +1,5 @@
 //! Surfaces as they are captured, and the primitives that they show.
 ghost use Rattle.std.specs.Prelude.{◌≡◌, ◌<◌, ◌≤◌, ◌^◌, codes};
-ghost use Rattle.kind_tables.specs.Walks.{Spot as TheSpot};
 ghost use Rattle.kind_tables.specs.SceneObjects.{id_in, scalar_of, scalars_of, value_at};
 ghost use Rattle.scene_read.specs.Starts.{visited_object};
 ghost use Rattle.world_snapshot.specs.Captured.{primitive_of, shape_count};

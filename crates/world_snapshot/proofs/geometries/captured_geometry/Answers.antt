@@ -1,17 +1,15 @@
-use Rattle.std.proofs.Common.{◌≡◌, ℤ, Some, codes, map, sym, ap, ◌∙◌, rules, w32, to_z, of_z}
+use Rattle.std.proofs.Common.{◌≡◌, Some, map, sym, ap, ◌∙◌, rules, w32, to_z, of_z}
 use Rattle.std.specs.List.{range_with_len}
 use Rattle.std.specs.Option.{option_map, unwrap_or}
 use Rattle.std.proofs.lemmas.Int.{to_z-of_z}
 use Rattle.std.proofs.lemmas.Option.{same_Some}
-use Rattle.kind_tables.specs.SceneObjects.{object_at, scalar_of}
+use Rattle.kind_tables.specs.SceneObjects.{object_at}
 use Rattle.kind_tables.specs.Scenes.{nothing_of}
 use Rattle.kind_tables.specs.Shapes.{common_radius}
 use Rattle.kind_tables.specs.declared.kinds.Kind.{Kind}
 use Rattle.kind_tables.specs.declared.kinds.Kind.TheVariants.{FrameDefault, GeometrySphere, GeometryTriangle}
 use Rattle.scene_read.proofs.ElementFacts.{other_read, spheres_read, triangles_read}
-use Rattle.scene_read.specs.Reading.{array_in}
 use Rattle.scene_read.specs.Shaped.{count_in, sphere_at, triangle_at, triangle_count}
-use Rattle.scene_read.specs.Starts.{visited_object}
 use Rattle.world_snapshot.proofs.geometries.captured_geometry.Goals as goal
 
 pub returns-in_ok-captured_array-in-GeometryTriangle-2 : goal.returns-in_ok-captured_array-in-GeometryTriangle-2

@@ -1,6 +1,5 @@
-use Rattle.std.proofs.Common.{◌≡◌, ◌++◌, ◌∙◌, Some, None, codes, ap, sym, subst}
+use Rattle.std.proofs.Common.{◌++◌, ◌∙◌, Some, None, ap, sym, subst}
 use Rattle.std.proofs.lemmas.List.{append-nil}
-use Rattle.scene_read.specs.Shown.{live_in}
 use Rattle.world_snapshot.proofs.CapturedFacts.{AreShapes, surface_shows, surface_shows_nothing}
 use Rattle.world_snapshot.specs.Captured.{primitives_of}
 use Rattle.world_snapshot.proofs.rows.push_surface.Goals as goal
