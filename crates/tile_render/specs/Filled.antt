@@ -1,5 +1,5 @@
 -- A tile on its way: row by row from the lowest, and in each row channel by channel.
-use Rattle.std.specs.Prelude.{◌≡◌, ℕ, ◌+◌, ◌*◌, ◌<◌, List}
+use Rattle.std.specs.Prelude.{◌≡◌, ℕ, ◌+◌, ◌*◌, ◌<◌}
 use Rattle.fx_math.specs.declared.scene.Scene.{Scene}
 use Rattle.picture_model.specs.declared.records.Plane.TheVariants.{Color, PrimitiveId, ObjectId, InstanceId}
 use Rattle.picture_model.specs.Pictures.{in_a_row, pixel}

@@ -3,6 +3,10 @@
 
 mod pixels;
 mod rows;
+#[cfg(test)]
+mod tests;
+#[cfg(test)]
+mod tests_store;
 mod tiles;
 
 pub use tiles::render;

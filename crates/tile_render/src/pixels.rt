@@ -1,5 +1,5 @@
 //! What one ray shows.
-ghost use Rattle.std.specs.Prelude.{◌≡◌, ◌≤◌, All};
+ghost use Rattle.std.specs.Prelude.{◌≡◌, All};
 ghost use Rattle.std.specs.Option.{ForSome, option_and_then};
 ghost use Rattle.picture_model.specs.Hits.{hit_after, nearest};
 ghost use Rattle.picture_model.specs.Limits.{IsBlendWithin, IsHitRowWithin, IsLightingWithin, IsPrimitiveWithin, IsRayWithin};

@@ -1,8 +1,4 @@
-use Rattle.std.proofs.Common.{◌≡◌, ◌+◌, ◌*◌, ◌++◌, ℕ, suc, List, length, ap, sym, ◌∙◌, arith}
-use Rattle.picture_model.proofs.PictureSizes.{length-in_a_row, length-pixel}
-use Rattle.picture_model.proofs.PixelRows.{in_a_row-suc}
-use Rattle.picture_model.specs.Pictures.{in_a_row, pixel}
-use Rattle.picture_model.specs.declared.records.Plane.{Plane}
+use Rattle.std.proofs.Common.{◌∙◌, arith}
 use Rattle.picture_model.specs.declared.records.Plane.TheVariants.{Color, PrimitiveId, ObjectId, InstanceId}
 use Rattle.world_snapshot.specs.Works.{scene_of_work}
 use Rattle.tile_render.proofs.FilledLaws.{length-pixels, one_more}

@@ -1,4 +1,4 @@
-use Rattle.std.proofs.Common.{◌≡◌, ◌≤◌, arith, ap, sym, ◌∙◌}
+use Rattle.std.proofs.Common.{◌≡◌, arith, ap, sym, ◌∙◌}
 use Rattle.picture_model.specs.declared.records.Rect.{Rect}
 use Rattle.picture_model.specs.Tiles.{tile_rect}
 use Rattle.tile_claims.specs.Parts.{rect_of}

@@ -1,4 +1,3 @@
-use Rattle.std.proofs.Common.{◌≡◌}
 use Rattle.tile_claims.specs.Seats.{IsClaimOf, IsSameClaim, key_of, pixels_of, tile_of}
 use Rattle.tile_render.specs.Filled.{AreFilled}
 use Rattle.tile_render.proofs.tiles.render.Given as goal
