@@ -7,6 +7,8 @@ mod rows;
 mod tests;
 #[cfg(test)]
 mod tests_store;
+#[cfg(test)]
+mod tests_worlds;
 mod tiles;
 
 pub use tiles::render;

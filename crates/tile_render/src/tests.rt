@@ -1,4 +1,4 @@
-// Worlds that are prepared and rendered by tiles, with the rows of the documents, against the plain program.
+// Worlds that are prepared and rendered by tiles: worked scenes, against the plain program.
 ghost use Rattle.std.specs.Prelude.{◌≡◌, ◌<◌, ◌≤◌, ◌∷◌, [], pos, true, IfOk};
 ghost use Rattle.picture_model.specs.Limits.{IsSceneWithin, IsSide};
 ghost use Rattle.picture_model.specs.Tiles.{tile_count};
@@ -9,7 +9,7 @@ ghost use Rattle.tile_claims.specs.Views.{new_view};
 ghost use Rattle.world_snapshot.specs.Works.{scene_of_work};
 
 use crate::render;
-use crate::tests_store::{Store, array, bare};
+use crate::tests_store::{Store, array, bare, named, set_positions};
 use dev_types::{DataType, Handle, Value};
 use fx_math::{LightList, Lighting, NO_ID, PrimitiveList, Scene};
 use kind_tables::Kind;
@@ -21,11 +21,6 @@ use std::test::Fail;
 use tile_claims::{Claims, Key, SceneName, Seat, TilePixels};
 use world_snapshot::{Prepared, Work, prepare};
 
-/// A value that names an object.
-fn named(ty: DataType, h: u64) -> Value {
-    Value::Object(ty, Handle(h))
-}
-
 /// An array that names these objects.
 fn names(alloc: Global, ty: DataType, handles: &[u64]) -> Result<crate::tests_store::Object, Fail> {
     let mut values = Vec::new(alloc);
@@ -33,15 +28,6 @@ fn names(alloc: Global, ty: DataType, handles: &[u64]) -> Result<crate::tests_st
         values.push(named(ty, *h))?;
     }
     array(alloc, ty, &values)
-}
-
-/// Puts an array of positions under handle 1.
-fn set_positions(alloc: Global, store: &mut Store, positions: &[[i32; 3]]) -> Result<(), Fail> {
-    let mut values = Vec::new(alloc);
-    for position in positions {
-        values.push(Value::ScalarVec3(*position))?;
-    }
-    store.add(1, array(alloc, DataType::ScalarVec3, &values)?)
 }
 
 /// A material under a handle.

@@ -151,3 +151,17 @@ impl Objects for Store {
         }
     }
 }
+
+/// A value that names an object.
+pub fn named(ty: DataType, h: u64) -> Value {
+    Value::Object(ty, Handle(h))
+}
+
+/// Puts an array of positions under handle 1.
+pub fn set_positions(alloc: Global, store: &mut Store, positions: &[[i32; 3]]) -> Result<(), Fail> {
+    let mut values = Vec::new(alloc);
+    for position in positions {
+        values.push(Value::ScalarVec3(*position))?;
+    }
+    store.add(1, array(alloc, DataType::ScalarVec3, &values)?)
+}

@@ -11,10 +11,6 @@ mod readers;
 mod rows;
 mod searches;
 mod surfaces;
-#[cfg(test)]
-mod tests;
-#[cfg(test)]
-mod tests_store;
 mod works;
 
 pub use prepared::{Prepared, prepare};

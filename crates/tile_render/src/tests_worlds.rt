@@ -1,6 +1,5 @@
 // Worlds of a small store of objects, prepared: what they show, that they keep it, and why they are refused.
-use crate::tests_store::{Store, array, bare};
-use crate::{Prepared, prepare};
+use crate::tests_store::{Store, array, bare, named, set_positions};
 use bvh_build::Node;
 use dev_types::{DataType, Handle, Name, Refused, Value};
 use fx_math::{LightRow, NO_ID, Place, Primitive, Shape, Vec3};
@@ -10,20 +9,7 @@ use scene_read::Objects;
 use std::alloc::Global;
 use std::process::Abort;
 use std::test::Fail;
-
-/// A value that names an object.
-fn named(ty: DataType, h: u64) -> Value {
-    Value::Object(ty, Handle(h))
-}
-
-/// Puts an array of positions under handle 1.
-fn set_positions(alloc: Global, store: &mut Store, positions: &[[i32; 3]]) -> Result<(), Fail> {
-    let mut values = Vec::new(alloc);
-    for position in positions {
-        values.push(Value::ScalarVec3(*position))?;
-    }
-    store.add(1, array(alloc, DataType::ScalarVec3, &values)?)
-}
+use world_snapshot::{Prepared, prepare};
 
 const CORNERS: [[i32; 3]; 3] = [
     [-131072, -131072, 0],
