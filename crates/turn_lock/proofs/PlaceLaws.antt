@@ -7,7 +7,7 @@ use Rattle.std.proofs.lemmas.List.Sums.{sum_by-cons, sum_by-append}
 use Rattle.std.proofs.Math.Seq.{drop-append_seam}
 use Rattle.std.specs.List.{cons_option}
 use Rattle.std.proofs.lemmas.List.Elements.{filter_map-append}
-use Rattle.turn_lock.specs.Histories.{Extends, place_if, places_from, places, new_places, times, AreRising, AreApart, with_place, merged, longer, callers, AddsOneCall}
+use Rattle.turn_lock.specs.Histories.{Extends, place_if, places_from, places, new_places, times, AreRising, AreApart, with_place, merged, longer, shorter, callers, AddsOneCall}
 
 pub times-same : (p : ℕ) (xs : List ℕ) → times p (p ∷ xs) ≡ 1 + times p xs
 times-same p xs = sum_by-cons (λ q. cond (q == p) 1 0) p xs ∙ ap (λ b. cond b 1 0 + times p xs) (eq-eqb p p refl)
@@ -203,6 +203,31 @@ module _ {E : Type 0} where
       by_test : (b : Bool) → Extends (cond b ys xs) log
       by_test true = other
       by_test false = one
+
+  -- of two beginnings of one history the shorter begins the longer
+  pub begins_longer : (xs ys a b : List E) → xs ++ a ≡ ys ++ b → length xs ≤ length ys → Extends xs ys
+  begins_longer [] ys a b e le = (ys, refl)
+  begins_longer (x ∷ xs) [] a b e le = absurd (omega (arith, le))
+  begins_longer (x ∷ xs) (y ∷ ys) a b e le =
+      let head : x ≡ y = cc in
+      let tails : xs ++ a ≡ ys ++ b = cc in
+      let rest = begins_longer xs ys a b tails (omega (arith, le)) in
+      (rest.0, λ i. sym head i ∷ rest.1 i)
+
+  pub shorter-longer : (xs ys log : List E) → Extends xs log → Extends ys log → Extends (shorter xs ys) (longer xs ys)
+  shorter-longer xs ys log one other = by_test (nat_lt (length xs) (length ys)) refl
+    where
+      by_test : (b : Bool) → nat_lt (length xs) (length ys) ≡ b → Extends (cond b xs ys) (cond b ys xs)
+      by_test true e = let below : length xs < length ys = grind (arith, nat_tests) in begins_longer xs ys one.0 other.0 (sym one.1 ∙ other.1) (omega arith)
+      by_test false e = let least : length ys ≤ length xs = grind (arith, nat_tests) in begins_longer ys xs other.0 one.0 (sym other.1 ∙ one.1) (omega arith)
+
+  -- both begin the longer where the shorter does
+  pub both_begin : (xs ys : List E) → Extends (shorter xs ys) (longer xs ys) → Extends xs (longer xs ys) × Extends ys (longer xs ys)
+  both_begin xs ys = by_test (nat_lt (length xs) (length ys))
+    where
+      by_test : (b : Bool) → Extends (cond b xs ys) (cond b ys xs) → Extends xs (cond b ys xs) × Extends ys (cond b ys xs)
+      by_test true e = (e, extends-same ys)
+      by_test false e = (extends-same xs, e)
 
   pub length-longer : (xs ys : List E) → (length xs ≤ length (longer xs ys)) × (length ys ≤ length (longer xs ys))
   length-longer xs ys = by_test (nat_lt (length xs) (length ys)) refl

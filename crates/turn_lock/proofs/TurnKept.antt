@@ -18,7 +18,7 @@ use Rattle.std.proofs.lemmas.List.{set-get_or}
 use Rattle.turn_lock.specs.Rule.{Knows, Kept, Sat, Grabs, Looks, LetsGo}
 use Rattle.turn_lock.proofs.SumLaws.{sum_set, sum_same, sum_at, sum_none, sum_double, at_length}
 use Rattle.turn_lock.proofs.ShareLaws.{finer, parts_at-half, parts_at-both, parts_at-whole, parts_at-none}
-use Rattle.turn_lock.proofs.PlaceLaws.{times-append, times-merged, times-rising, rising-wider, rising-append, rising-merged, rising-same, rising-places, places-extended, rising-new_places, places_from-notes, extends-same, extends-later, extends-length, longer-extends, length-longer}
+use Rattle.turn_lock.proofs.PlaceLaws.{times-append, times-merged, times-rising, rising-wider, rising-append, rising-merged, rising-same, rising-places, places-extended, rising-new_places, places_from-notes, extends-same, extends-later, extends-length, longer-extends, shorter-longer, length-longer}
 
 off : false ≡ true → ⊥
 off e = true≢false (sym e)
@@ -65,8 +65,8 @@ module _ {S E F : Type 0} (history : S → List E) (fixed : S → F) (by : E →
           home = λ none. absurd (omega (arith, none));
           away = λ _. (refl, (w, set_here views id w (at_length views id v at), refl));
           each = knows_set k.log 1 id k.scale views id w
-              (λ j u apart there. let old = k.each j u there in record { seen = old.seen; rises = old.rises; holds = λ held. absurd (omega (arith, (old.holds held).0)); spent = old.spent; fixed = old.fixed; scaled = old.scaled })
-              record { seen = mine.seen; rises = mine.rises; holds = λ _. (refl, refl, home.2); spent = λ none. absurd (omega (arith, none)); fixed = mine.fixed; scaled = mine.scaled };
+              (λ j u apart there. let old = k.each j u there in record { seen = old.seen; older = old.older; rises = old.rises; holds = λ held. absurd (omega (arith, (old.holds held).0)); spent = old.spent; fixed = old.fixed; scaled = old.scaled })
+              record { seen = mine.seen; older = mine.older; rises = mine.rises; holds = λ _. (refl, refl, home.2); spent = λ none. absurd (omega (arith, none)); fixed = mine.fixed; scaled = mine.scaled };
           counted = λ p. sum_same (λ (u : View E F). times p u.mine) views id v w at refl ∙ k.counted p;
           shared = sum_same (λ (u : View E F). parts_at k.scale u.share) views id v w at refl ∙ k.shared;
         },
@@ -95,7 +95,7 @@ module _ {S E F : Type 0} (history : S → List E) (fixed : S → F) (by : E →
     keeps,
     tt,
     subst (λ (t : List ℕ × List (View E F)). Rule record { words = t.0; homes = s.homes; views = t.1 }) (λ i. (sym (set-get_or s.words 0 0) i, sym (set_again s.views id me.0 at) i)) k,
-    (refl, (k.each id me.0 at).rises),
+    (refl, (k.each id me.0 at).rises, (k.each id me.0 at).older),
   )
 
   -- let go
@@ -116,6 +116,7 @@ module _ {S E F : Type 0} (history : S → List E) (fixed : S → F) (by : E →
       let front : AreRising 0 (length v.entered) v.mine = rising-wider 0 0 (length v.seen) (length v.entered) v.mine (omega arith) upto knows.rises in
       record {
         seen = extends-same (history x);
+        older = (history x, refl);
         rises = rising-append 0 (length v.entered) (length (history x)) v.mine (new_places by v.entered (history x)) (omega arith) (extends-length v.entered (history x) adds) front (rising-new_places by v.entered (history x) adds);
         holds = λ held. absurd (off held);
         spent = λ none. absurd (omega (arith, none));
@@ -144,7 +145,7 @@ module _ {S E F : Type 0} (history : S → List E) (fixed : S → F) (by : E →
           home = λ _. (x, set_here s.homes 0 (some (Some x)) (omega arith), refl, same);
           away = λ taken. absurd (taken refl);
           each = knows_set (history x) 0 k.holder k.scale s.views id w
-              (λ j u apart there. let old = k.each j u there in record { seen = extends-later u.seen k.log (history x) old.seen later; rises = old.rises; holds = λ taken. absurd (apart ((old.holds taken).1 ∙ sym held.1)); spent = old.spent; fixed = old.fixed; scaled = old.scaled })
+              (λ j u apart there. let old = k.each j u there in record { seen = extends-later u.seen k.log (history x) old.seen later; older = old.older; rises = old.rises; holds = λ taken. absurd (apart ((old.holds taken).1 ∙ sym held.1)); spent = old.spent; fixed = old.fixed; scaled = old.scaled })
               (left_each k.log k.word k.holder k.scale id v x mine holding unspent adds);
           counted = λ p.
               let f : View E F → ℕ = λ u. times p u.mine in
@@ -175,7 +176,7 @@ module _ {S E F : Type 0} (history : S → List E) (fixed : S → F) (by : E →
       let mine = k.each id v at in
       let cut : List (View E F) = set s.views id (halved v) in
       let finer_each : Knows given k.log k.word k.holder (k.scale + 1) id (halved v) =
-      record { seen = mine.seen; rises = mine.rises; holds = mine.holds; spent = mine.spent; fixed = mine.fixed; scaled = omega (arith, mine.scaled) } in
+      record { seen = mine.seen; older = mine.older; rises = mine.rises; holds = mine.holds; spent = mine.spent; fixed = mine.fixed; scaled = omega (arith, mine.scaled) } in
       record {
         log = k.log;
         word = k.word;
@@ -189,10 +190,10 @@ module _ {S E F : Type 0} (history : S → List E) (fixed : S → F) (by : E →
             (out.0, (out.1.0, at_longer cut (beside v ∷ []) k.holder out.1.0 (set_else s.views id k.holder (halved v) apart ∙ out.1.1), out.1.2));
         each = λ j u there. ⊎_elim
             (λ (old : get_elem? cut j ≡ some u). knows_set k.log k.word k.holder (k.scale + 1) s.views id (halved v)
-            (λ i y _ at_y. let kn = k.each i y at_y in record { seen = kn.seen; rises = kn.rises; holds = kn.holds; spent = kn.spent; fixed = kn.fixed; scaled = omega (arith, kn.scaled) })
+            (λ i y _ at_y. let kn = k.each i y at_y in record { seen = kn.seen; older = kn.older; rises = kn.rises; holds = kn.holds; spent = kn.spent; fixed = kn.fixed; scaled = omega (arith, kn.scaled) })
             finer_each j u old)
             (λ (new : beside v ≡ u). subst (Knows given k.log k.word k.holder (k.scale + 1) j) new
-            record { seen = mine.seen; rises = tt; holds = λ taken. absurd (off taken); spent = λ none. (refl, refl); fixed = mine.fixed; scaled = omega (arith, mine.scaled) })
+            record { seen = mine.seen; older = (v.seen, refl); rises = tt; holds = λ taken. absurd (off taken); spent = λ none. (refl, refl); fixed = mine.fixed; scaled = omega (arith, mine.scaled) })
             (at_snoc cut (beside v) u j there);
         counted = λ p.
             let f : View E F → ℕ = λ u. times p u.mine in
@@ -231,6 +232,7 @@ module _ {S E F : Type 0} (history : S → List E) (fixed : S → F) (by : E →
       let high : ℕ = length (longer v.seen w.seen) in
       record {
         seen = longer-extends v.seen w.seen k.log mine.seen theirs.seen;
+        older = shorter-longer v.seen w.seen k.log mine.seen theirs.seen;
         rises = rising-merged 0 high v.mine w.mine
             (rising-wider 0 0 (length v.seen) high v.mine (omega arith) (omega arith) mine.rises)
             (rising-wider 0 0 (length w.seen) high w.mine (omega arith) (omega arith) theirs.rises)
@@ -264,7 +266,7 @@ module _ {S E F : Type 0} (history : S → List E) (fixed : S → F) (by : E →
             (out.0, (out.1.0, set_else one other k.holder spent_view apart' ∙ set_else s.views id k.holder (joined v w) apart ∙ out.1.1, out.1.2));
         each = knows_set k.log k.word k.holder k.scale one other spent_view
             (λ j u _ at_u. knows_set k.log k.word k.holder k.scale s.views id (joined v w) (λ i y _ at_y. k.each i y at_y) (joined_knows s k id v other w at here ne idle unspent) j u at_u)
-            record { seen = (k.log, refl); rises = tt; holds = λ taken. absurd (off taken); spent = λ none. (refl, refl); fixed = λ some_parts. absurd (omega (arith, some_parts)); scaled = omega arith };
+            record { seen = (k.log, refl); older = ([], refl); rises = tt; holds = λ taken. absurd (off taken); spent = λ none. (refl, refl); fixed = λ some_parts. absurd (omega (arith, some_parts)); scaled = omega arith };
         counted = λ p.
             let f : View E F → ℕ = λ u. times p u.mine in
             let first = sum_set f s.views id v (joined v w) at in
@@ -299,7 +301,7 @@ module _ {S E F : Type 0} (history : S → List E) (fixed : S → F) (by : E →
     where
       first_knows : (seat : ℕ) (v : View E F) → get_elem? (first_view given ∷ []) seat ≡ some v → Knows given (history x) 0 0 0 seat v
       first_knows zero v at = subst (Knows given (history x) 0 0 0 0) (some-injective (first_view given) v at)
-          record { seen = (history x, refl); rises = tt; holds = λ taken. absurd (off taken); spent = λ _. (refl, refl); fixed = λ _. refl; scaled = omega arith }
+          record { seen = (history x, refl); older = ([], refl); rises = tt; holds = λ taken. absurd (off taken); spent = λ _. (refl, refl); fixed = λ _. refl; scaled = omega arith }
       first_knows (suc seat) v at = absurd (some-ne-none v (sym at))
 
   -- the table at the end

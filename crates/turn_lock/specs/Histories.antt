@@ -65,6 +65,10 @@ merged (p ∷ ps) qs = with_place p (merged ps qs)
 abbrev pub longer : {E : Type 0} → List E → List E → List E
 longer xs ys = if nat_lt (length xs) (length ys) then ys else xs
 
+-- the other of the two
+abbrev pub shorter : {E : Type 0} → List E → List E → List E
+shorter xs ys = if nat_lt (length xs) (length ys) then xs else ys
+
 -- one list has the entries of the other and more, of which this caller called one at most and no one else called any
 abbrev pub AddsOneCall : {E : Type 0} → (E → Option ℕ) → ℕ → List E → List E → Type 0
 AddsOneCall {E} by caller before after =

@@ -11,6 +11,7 @@ use Rattle.turn_lock.specs.Views.{PlacesRise, parts_at, entering, leaving}
 -- what one view may say, where `log` is the history last let go, and `holder` is the seat that holds the state where the word is 1
 pub record Knows {E F : Type 0} (given : F) (log : List E) (word holder scale seat : ℕ) (v : View E F) : Type 0 where
   pub seen : Extends v.seen log
+  pub older : Extends v.older v.seen
   pub rises : PlacesRise v
   pub holds : v.holding ≡ true → (word ≡ 1) × (seat ≡ holder) × (v.entered ≡ log)
   pub spent : v.share.parts ≡ 0 → (v.mine ≡ []) × (v.holding ≡ false)
@@ -58,7 +59,7 @@ Grabs {S} history fixed step before found after =
 
 -- nothing changed, and the places of the seat's entries rise
 abbrev pub Looks : {S E F : Type 0} → Step (Option S) → Sat S E F → ℕ → Sat S E F → Type 0
-Looks step before found after = (after ≡ before) × PlacesRise before.0
+Looks step before found after = (after ≡ before) × PlacesRise before.0 × Extends before.0.older before.0.seen
 
 -- the state in the seat's hand is home, and the seat has seen its history
 abbrev pub LetsGo : {S E F : Type 0} → (S → List E) → (E → Option ℕ) → Step (Option S) → Sat S E F → ℕ → Sat S E F → Type 0

@@ -2,7 +2,7 @@
 use Rattle.std.specs.Prelude.{length, ◌≡◌, ℕ, ◌+◌, ◌-◌, ◌*◌, ◌^◌, List, [], ◌∷◌, ◌++◌, Option, Some, None, true, false, max}
 use Rattle.turn_lock.specs.declared.view.Share.{Share}
 use Rattle.turn_lock.specs.declared.view.View.{View}
-use Rattle.turn_lock.specs.Histories.{AreRising, AreRising-prop, new_places, merged, longer}
+use Rattle.turn_lock.specs.Histories.{AreRising, AreRising-prop, new_places, merged, longer, shorter}
 
 -- the fraction parts / 2 ^ halvings
 abbrev pub share_of : ℕ → ℕ → Share
@@ -31,11 +31,11 @@ IsWhole s = s.parts ≡ 2 ^ s.halvings
 module _ {E F : Type 0} where
   -- what the first pass knows: nothing yet but the data that no call changes
   abbrev pub first_view : F → View E F
-  first_view fixed = record { seen = []; mine = []; share = whole; fixed = Some fixed; holding = false; entered = [] }
+  first_view fixed = record { seen = []; older = []; mine = []; share = whole; fixed = Some fixed; holding = false; entered = [] }
 
   -- what is left of a pass that another has taken in
   abbrev pub spent_view : View E F
-  spent_view = record { seen = []; mine = []; share = share_of 0 0; fixed = None; holding = false; entered = [] }
+  spent_view = record { seen = []; older = []; mine = []; share = share_of 0 0; fixed = None; holding = false; entered = [] }
 
   -- the one view of a badge, or of none the spent one
   abbrev pub view_in : List (View E F) → View E F
@@ -52,20 +52,20 @@ module _ {E F : Type 0} where
 
   -- it holds the state, whose history is `history`
   abbrev pub entering : View E F → List E → View E F
-  entering v history = record { seen = v.seen; mine = v.mine; share = v.share; fixed = v.fixed; holding = true; entered = history }
+  entering v history = record { seen = v.seen; older = v.older; mine = v.mine; share = v.share; fixed = v.fixed; holding = true; entered = history }
 
   -- it has let the state go, whose history is `history`
   abbrev pub leaving : (E → Option ℕ) → View E F → List E → View E F
-  leaving by v history = record { seen = history; mine = v.mine ++ new_places by v.entered history; share = v.share; fixed = v.fixed; holding = false; entered = [] }
+  leaving by v history = record { seen = history; older = []; mine = v.mine ++ new_places by v.entered history; share = v.share; fixed = v.fixed; holding = false; entered = [] }
 
   -- it has given half of its share away
   abbrev pub halved : View E F → View E F
-  halved v = record { seen = v.seen; mine = v.mine; share = half v.share; fixed = v.fixed; holding = v.holding; entered = v.entered }
+  halved v = record { seen = v.seen; older = v.older; mine = v.mine; share = half v.share; fixed = v.fixed; holding = v.holding; entered = v.entered }
 
   -- the other half: as much was seen, and nothing called
   abbrev pub beside : View E F → View E F
-  beside v = record { seen = v.seen; mine = []; share = half v.share; fixed = v.fixed; holding = false; entered = [] }
+  beside v = record { seen = v.seen; older = []; mine = []; share = half v.share; fixed = v.fixed; holding = false; entered = [] }
 
   -- it has taken in what the other knew
   abbrev pub joined : View E F → View E F → View E F
-  joined v w = record { seen = longer v.seen w.seen; mine = merged v.mine w.mine; share = both_shares v.share w.share; fixed = v.fixed; holding = v.holding; entered = v.entered }
+  joined v w = record { seen = longer v.seen w.seen; older = shorter v.seen w.seen; mine = merged v.mine w.mine; share = both_shares v.share w.share; fixed = v.fixed; holding = v.holding; entered = v.entered }

@@ -175,6 +175,7 @@ impl<S: Journaled> Turn<S> {
         ensures caller { caller_number pass.new ≡ caller_number pass.old }
         ensures seen { seen pass.new ≡ longer (seen pass.old) (seen other) }
         ensures mine { mine pass.new ≡ merged (mine pass.old) (mine other) }
+        ensures later { Extends (seen pass.old) (seen pass.new) × Extends (seen other) (seen pass.new) }
         ensures apart { AreApart (mine pass.old) (mine other) }
         ensures share { share pass.new ≡ both_shares (share pass.old) (share other) }
         ensures fixed { fixed pass.new ≡ fixed pass.old }

@@ -103,6 +103,7 @@ impl<S: Journaled> Turn<S> {
         ensures table { seat.new.table_id ≡ seat.old.table_id }
         ensures view { seat.new.me ≡ (joined seat.old.me.0 other.me.0, seat.old.me.1) }
         ensures rising { PlacesRise seat.new.me.0 }
+        ensures older { Extends seat.new.me.0.older seat.new.me.0.seen }
     {
         let shared = &self.table.shared;
         shared.join_seat::<Merge>(seat, other);

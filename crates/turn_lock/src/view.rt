@@ -12,6 +12,8 @@ pub struct Share {
 pub struct View<E, F> {
     /// The history as far as it was seen.
     pub seen: LinkedList<E>,
+    /// The shorter of the two histories that a join compared, of which the longer is seen; empty otherwise.
+    pub older: LinkedList<E>,
     /// The places of the entries that were made with it, counted from 1.
     pub mine: LinkedList<u64>,
     pub share: Share,
