@@ -103,6 +103,7 @@ ends after old now place flight pictures ended count e here ticket left shown =
       count = length-take-le place now (omega (arith, e.within, count));
       shown = subst HasEnded e.ends.looked e.ends.shown;
       rises = e.ends.rises;
+      alone = e.ends.alone;
       ticket = ticket ∙ ap (λ (h : Flying). h.ticket) same;
       left = left ∙ ap is_stopped same;
       flights = ap (λ n. take place now ++ drop n now) next ∙ ap (λ zs. take place now ++ zs) e.behind;

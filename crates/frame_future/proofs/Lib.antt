@@ -6,3 +6,5 @@ pub mod Finds
 pub mod Changes
 pub mod Endings
 pub mod DoneLaws
+pub mod ReadLaws
+pub mod AloneLaws

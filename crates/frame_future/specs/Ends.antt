@@ -1,15 +1,18 @@
 -- How flights end.
 use Rattle.std.specs.Prelude.{◌≡◌, ℕ, ◌+◌, ◌≤◌, ◌<◌, List, [], ◌∷◌, ◌++◌, Some, drop, length, slice_index_or, if◌then◌else◌}
 use Rattle.std.specs.List.{slice_get}
+use Rattle.tile_claims.specs.Views.{IsAlone}
 use Rattle.frame_future.specs.Flights.{Flying, awaited, is_stopped, looked_at, HasEnded}
 use Rattle.frame_future.specs.Future.{Future, finished}
 use Rattle.frame_future.specs.declared.phase.Ended.{Ended}
 
--- a flight that does not end by a look at all flights above a ticket: it was looked at and is not over, or it is not above
+-- A flight that does not end by a look at all flights above a ticket: it was looked at and is not over, or it is not above. Of one that only its
+-- first seat worked on the look reads exactly how many tiles that seat gave
 pub record StaysOpen (after : ℕ) (f g : Flying) : Type 0 where
   pub below : f.ticket ≤ after → g ≡ f
   pub looked : after < f.ticket → g ≡ looked_at g.looked f
   pub rises : after < f.ticket → f.view.gives.last ≤ g.looked
+  pub alone : after < f.ticket → IsAlone f.view → g.looked ≡ length f.view.given
   pub waits : after < f.ticket → g.looked < awaited f
 
 -- so it is of the first `count` flights
@@ -34,6 +37,7 @@ pub record Ends (after : ℕ) (old new : Future) (e : Ended) : Type 0 where
   pub count : length looked ≡ place
   pub shown : HasEnded (looked_at (awaited last) last)
   pub rises : last.view.gives.last ≤ awaited last
+  pub alone : IsAlone last.view → awaited last ≡ length last.view.given
   pub ticket : e.ticket ≡ last.ticket
   pub left : e.left ≡ is_stopped last
   pub flights : new.flights ≡ looked ++ drop (place + 1) old.flights
@@ -44,6 +48,7 @@ pub record IsLast (after : ℕ) (f g : Flying) : Type 0 where
   pub above : after < f.ticket
   pub looked : g ≡ looked_at (awaited f) f
   pub rises : f.view.gives.last ≤ awaited f
+  pub alone : IsAlone f.view → awaited f ≡ length f.view.given
   pub shown : HasEnded g
 
 -- a look leaves what a flight is of

@@ -100,13 +100,15 @@ pub record IsOfFlight (f : Flying) (claims : Claims) (s : Seat) : Type 0 where
   pub seat : IsSeatOf claims s
   pub number : number_of s ≡ f.seat
 
--- since it was lent, the seat has split off no seat, has not stopped and has collected nothing, and no tile is open at it
+-- Since it was lent, the seat has split off no seat, has not stopped and has collected nothing, and no tile is open at it. What its looks at the
+-- given tiles read has not fallen
 pub record IsWorked (f : Flying) (s : Seat) : Type 0 where
   pub first : (view s).first ≡ true
   pub idle : (view s).opened ≡ None
   pub splits : (view s).splits ≡ f.view.splits
   pub stop : (view s).stop ≡ f.view.stop
   pub collected : (view s).collected ≡ f.view.collected
+  pub rises : f.view.gives.last ≤ (view s).gives.last
 
 -- the last look of its first seat shows that no tile of it is open: all are given, or as many as were claimed when it was stopped
 abbrev pub SeesEnd : Bool → View → Type 0

@@ -119,13 +119,23 @@ pub record IsLater (s : Future) (ticket : ℕ) : Type 0 where
 abbrev pub AreHome : Future → Type 0
 AreHome s = All (λ f. f.home ≡ true) s.flights
 
--- the flight was stopped: as many tiles were claimed as it now waits for
+-- The flight was stopped: as many tiles were claimed as it now waits for, no fewer than were seen claimed or given; where only its first seat
+-- worked on it, as many as that seat claimed
 pub record IsStop (f g : Flying) : Type 0 where
   pub claims : ℕ
   pub now : g ≡ stopped_at claims f
   pub within : claims ≤ tiles_of (key_at f)
+  pub seen : min f.view.claims.last (tiles_of (key_at f)) ≤ claims
   pub gives : f.view.gives.last ≤ claims
   pub alone : IsAlone f.view → claims ≡ claimed f.view
+
+-- a look at the count of claimed tiles of a flight read so many, at most all; where only its first seat worked on it, as many as that seat claimed
+pub record IsCount (f g : Flying) (result : ℕ) : Type 0 where
+  pub read : ℕ
+  pub now : g ≡ asked_at read f
+  pub value : result ≡ min read (tiles_of (key_at f))
+  pub rises : f.view.claims.last ≤ read
+  pub alone : IsAlone f.view → f.view.stop ≡ None → result ≡ claimed f.view
 
 -- the frame was discarded: its flight was stopped, or its picture is gone
 abbrev pub IsDiscarded : ℕ → Future → Future → Option Flying → Type 0
@@ -153,6 +163,10 @@ lent_as p c number = record p { loans = slice_set p.loans (place_of c) (Some num
 
 abbrev pub given_back : Finished → Channel → Finished
 given_back p c = record p { loans = slice_set p.loans (place_of c) None }
+
+-- the loan of a channel of a frame's picture ended, whoever holds it; a frame that is not done stays as it is
+abbrev pub loan_ended : Future → ℕ → Channel → Future
+loan_ended s frame c = option_map_or (λ p. with_picture s (given_back p c)) (shown_by s frame) s
 
 -- what is lent of it
 abbrev pub loan_from : Finished → Channel → ℕ → Mapped

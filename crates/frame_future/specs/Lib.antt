@@ -6,3 +6,4 @@ pub mod Held
 pub mod Stored
 pub mod Future
 pub mod Ends
+pub mod Reads

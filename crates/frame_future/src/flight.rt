@@ -1,11 +1,11 @@
 //! One flight of a frame.
-ghost use Rattle.std.specs.Prelude.{◌≡◌, ◌==◌, ◌^◌, ◌≤◌, ◌<◌, ℕ, [], Some, None, true, false, min, vec_capacity, IfOk, IfErr, OnErr, IfSome, MatchOption};
+ghost use Rattle.std.specs.Prelude.{◌≡◌, ◌==◌, ◌^◌, ◌≤◌, ◌<◌, ℕ, [], length, Some, None, true, false, min, vec_capacity, IfOk, IfErr, OnErr, IfSome, MatchOption};
 ghost use Rattle.tile_claims.specs.Parts.{tiles_of};
 ghost use Rattle.tile_claims.specs.Seats.{frame_of, key_of, view, IsSeatOf};
 ghost use Rattle.tile_claims.specs.Rule.{HasSeenAll};
 ghost use Rattle.tile_claims.specs.Views.{claimed, beside, IsAlone};
 ghost use Rattle.frame_future.specs.Flights.{Flying, key_at, is_stopped, awaited, begun, looked_at, stopped_at, asked_at, handed_at, away, back, IsSound, IsNew, IsOfFlight, IsWorked, HasEnded};
-ghost use Rattle.frame_future.specs.Future.{finished, IsStop, IsHandout};
+ghost use Rattle.frame_future.specs.Future.{finished, IsCount, IsStop, IsHandout};
 ghost use Rattle.frame_future.specs.Pixels.{IsSized, AreAll};
 
 use crate::held::{Held, Place};
@@ -115,10 +115,19 @@ impl Flight {
         ensures ended { result ≡ (self.new.looked == awaited self.old) }
         ensures within { self.new.looked ≤ awaited self.old }
         ensures rises { self.old.view.gives.last ≤ self.new.looked }
+        ensures alone { IsAlone self.old.view → self.new.looked ≡ length self.old.view.given }
         ensures seen { result ≡ true → HasEnded self.new }
     {
         self.looked = self.place.given();
         self.looked == self.stop.unwrap_or(self.tiles)
+    }
+
+    /// Looks at the count of claimed tiles: how many are claimed, at most all.
+    pub(crate) fn claimed(&mut self) -> u64
+        requires { self.old.home ≡ true }
+        ensures { IsCount self.old self.new result }
+    {
+        self.place.claimed()
     }
 
     /// Stops the flight, which then waits for the tiles that were claimed.

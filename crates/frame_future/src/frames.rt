@@ -4,8 +4,9 @@ ghost use Rattle.std.specs.Option.{IsSomeAnd, MatchOption, option_map};
 ghost use Rattle.dev_types.specs.declared.refusals.Refused.TheVariants as refused;
 ghost use Rattle.tile_claims.specs.Seats.{key_of, view};
 ghost use Rattle.frame_future.specs.Ends.{NoneEnds, Ends, EndsAt, AreAlike, IsAlike, IsLast, StayOpen, StaysOpen};
+ghost use Rattle.frame_future.specs.Reads.{AreSeen};
 ghost use Rattle.frame_future.specs.Flights.{Flying, key_at, awaited, away, back, begun, IsNew, IsOfFlight, IsSound, IsWorked};
-ghost use Rattle.frame_future.specs.Future.{Future, nothing, is_flight_of, is_picture_of, has_ticket, refusal_of_picture, flight_of, flight_at, shown_by, phase_of, is_mapped, with_flight, with_flight_at, with_picture, without_picture, refusal_of_map, lent_as, given_back, loan_from, IsKept, IsLater, AreHome, IsDiscarded, IsHandout, IsOut};
+ghost use Rattle.frame_future.specs.Future.{Future, nothing, is_flight_of, is_picture_of, has_ticket, refusal_of_picture, flight_of, flight_at, shown_by, phase_of, is_mapped, with_flight, with_flight_at, with_picture, without_picture, refusal_of_map, lent_as, given_back, loan_ended, loan_from, IsKept, IsLater, AreHome, IsCount, IsDiscarded, IsHandout, IsOut};
 ghost use Rattle.frame_future.specs.declared.phase.Phase.TheVariants as phase;
 ghost use Rattle.frame_future.specs.Pixels.{IsSized};
 ghost use Rattle.tile_claims.specs.Parts.{tiles_of};
@@ -68,6 +69,13 @@ impl Frames {
         }
     }
 
+    /// The tickets of the flights rise, and each frame has one flight that was not stopped, or one picture, or neither. Nothing is done.
+    pub fn are_kept(&self)
+        ensures { IsKept self.now }
+    {
+        let _flights = &self.flights;
+    }
+
     /// Begins a flight of the frame with these claims and their first seat, which is fresh. `channels` are those that were asked
     /// for, in the order of `Channel`. An older picture of the frame is gone. All memory that the flight and its picture need is
     /// taken here.
@@ -108,7 +116,10 @@ impl Frames {
     /// no look showed an end.
     pub fn next_ended(&mut self, after: u64) -> Option<Ended>
         requires home { AreHome self.old }
-        ensures { MatchOption result (NoneEnds after self.old self.new) (Ends after self.old self.new) }
+        ensures ended { MatchOption result (NoneEnds after self.old self.new) (Ends after self.old self.new) }
+        ensures seen { AreSeen after self.old self.new result }
+        ensures home { AreHome self.new }
+        ensures kept { IsKept self.old }
     {
         let Some(place) = first_ended(&mut self.flights, after) else {
             return None;
@@ -133,6 +144,16 @@ impl Frames {
         ensures sound { IfSome (flight_at self.now ticket) IsSound }
     {
         self.flights[self.place_at(ticket)].last_look()
+    }
+
+    /// How many tiles of the flight with this ticket are claimed, by a look: at most all. Where no seat of it was handed out, it is how
+    /// many its first seat claimed.
+    pub fn claimed(&mut self, ticket: u64) -> u64
+        requires { IsSomeAnd (flight_at self.old ticket) (λ f. f.home ≡ true) }
+        ensures { IfSome (flight_at self.old ticket) (λ f. (g : Flying) × IsCount f g result × (self.new ≡ with_flight_at self.old ticket g)) }
+    {
+        let place = self.place_at(ticket);
+        self.flights[place].claimed()
     }
 
     /// Stops the frame's flight, or drops its picture; a frame that has neither stays as it is. No channel of it is mapped.
@@ -251,6 +272,17 @@ impl Frames {
                 Ok(())
             }
             None => Err((Refused::NotMapped, frame)),
+        }
+    }
+
+    /// Ends the loan of a channel of the frame's picture, whoever holds what was lent of it. Nothing changes where the frame is not
+    /// done, or the channel is not mapped.
+    pub fn end_loan(&mut self, frame: Handle, channel: Channel)
+        ensures { self.new ≡ loan_ended self.old frame channel }
+    {
+        match self.picture_of(frame) {
+            Some(place) => self.pictures[place].take_back(channel),
+            None => {}
         }
     }
 

@@ -67,6 +67,7 @@ impl Place {
         requires going { (view (held_in self.old).seat).stop ≡ None }
         ensures moves { Moves self.old self.new (stopping (view (held_in self.old).seat) result) }
         ensures within { result ≤ tiles_of (key_of (held_in self.old).claims) }
+        ensures seen { min (view (held_in self.old).seat).claims.last (tiles_of (key_of (held_in self.old).claims)) ≤ result }
         ensures gives { (view (held_in self.old).seat).gives.last ≤ result }
         ensures alone { IsAlone (view (held_in self.old).seat) → result ≡ claimed (view (held_in self.old).seat) }
     {

@@ -18,6 +18,9 @@ mod tests;
 mod tiles;
 
 pub use frames::Frames;
-pub use laws::an_ended_flight_is_done;
+pub use laws::{
+    a_fresh_flight_reads_nothing, a_stopped_flight_of_one_seat_ends, an_ended_flight_is_done,
+    looks_are_read, looks_are_read_to_an_end,
+};
 pub use mapped::MappedFrame;
 pub use phase::{Ended, Phase};

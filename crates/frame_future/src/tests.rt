@@ -4,7 +4,7 @@ ghost use Rattle.picture_model.specs.Limits.{IsSceneWithin, IsSide};
 ghost use Rattle.picture_model.specs.Pictures.{pixel, row_of};
 ghost use Rattle.tile_claims.specs.Parts.{plane, scene_of, rect_of, tiles_of, IsSized, AreRows};
 ghost use Rattle.tile_claims.specs.Pixels.{IsWhole};
-ghost use Rattle.tile_claims.specs.Seats.{key_of, view, tile_of, pixels_of, IsClaimOf, IsSameClaim, IsReady, with_row};
+ghost use Rattle.tile_claims.specs.Seats.{key_of, view, tile_of, pixels_of, IsClaimOf, IsSameClaim, IsReady, IsSameSeat, IsSeatOf, with_row};
 ghost use Rattle.tile_claims.specs.Views.{new_view};
 ghost use Rattle.frame_future.specs.Flights.{IsNew};
 ghost use Rattle.frame_future.specs.Pixels.{IsSized as HasSides};
@@ -169,6 +169,27 @@ fn naming(scene: &Scene) -> Key
     }
 }
 
+/// Claims a tile, fills it and gives it, if there is one.
+fn give_one(claims: &Claims, seat: &mut Seat, scene: &Scene)
+    requires scene { IsSceneWithin scene.now }
+    requires same_scene { scene_of (key_of claims.now) ≡ scene.now }
+    requires seat { IsSeatOf claims.now seat.old }
+    requires idle { (view seat.old).opened ≡ None }
+    requires in_time { (view seat.old).late ≡ false }
+    ensures seat { IsSeatOf claims.now seat.new × IsSameSeat seat.old seat.new }
+    ensures idle { (view seat.new).opened ≡ None }
+    ensures first { (view seat.new).first ≡ (view seat.old).first }
+    ensures splits { (view seat.new).splits ≡ (view seat.old).splits }
+    ensures stop { (view seat.new).stop ≡ (view seat.old).stop }
+    ensures collected { (view seat.new).collected ≡ (view seat.old).collected }
+    ensures gives { (view seat.new).gives ≡ (view seat.old).gives }
+{
+    if let Some(mut claim) = claims.claim(seat) {
+        fill(claims, &mut claim, scene);
+        claims.give(seat, claim);
+    }
+}
+
 /// The claims of a scene, with their first seat.
 fn claims_of(alloc: Global, scene: &Scene) -> Result<(Claims, Seat), NoMemory>
     requires { IsSceneWithin scene.now }
@@ -240,6 +261,42 @@ fn a_flight_hands_out_a_seat(rt: HostRuntime) -> Result<(), Fail> {
     assert!(rt; begun.is_ok());
     let out = frames.hand_out(rt.alloc(), 5);
     assert!(rt; matches!(out, Ok(Some(_))));
+    Ok(())
+}
+
+#[test]
+fn a_fresh_flight_has_no_tile_claimed(rt: HostRuntime) -> Result<(), Fail> {
+    let mut frames = Frames::new(rt.alloc());
+    let scene = half_red(&rt, rt.alloc(), 17, 1)?;
+    let (claims, seat) = claims_of(rt.alloc(), &scene).map_err(|_| "out of memory")?;
+    let channels = [true, false, false, false];
+    let begun = frames.begin(rt.alloc(), Handle(9), 5, claims, seat, channels);
+    assert!(rt; begun.is_ok());
+    assert_eq!(rt; frames.claimed(5), 0);
+    Ok(())
+}
+
+#[test]
+fn a_flight_that_was_lent_comes_back(rt: HostRuntime) -> Result<(), Fail> {
+    let frame = Handle(9);
+    let mut frames = Frames::new(rt.alloc());
+    let scene = half_red(&rt, rt.alloc(), 17, 1)?;
+    let (claims, seat) = claims_of(rt.alloc(), &scene).map_err(|_| "out of memory")?;
+    let channels = [true, false, false, false];
+    let begun = frames.begin(rt.alloc(), frame, 5, claims, seat, channels);
+    assert!(rt; begun.is_ok());
+    let (claims, mut seat) = frames.lend(5);
+    give_one(&claims, &mut seat, &scene);
+    frames.put_back(5, claims, seat);
+    assert_eq!(rt; frames.phase_of(frame), Phase::Flight(5));
+    Ok(())
+}
+
+#[test]
+fn a_loan_of_no_picture_ends_nothing(rt: HostRuntime) -> Result<(), Fail> {
+    let mut frames = Frames::new(rt.alloc());
+    frames.end_loan(Handle(9), Channel::Color);
+    assert!(rt; !frames.mapped(Handle(9)));
     Ok(())
 }
 
