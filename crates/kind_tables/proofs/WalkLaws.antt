@@ -25,26 +25,26 @@ ranks_end : (kind : Kind) → rank_of kind < 10
 ranks_end kind = ltb-true (rank_of kind) 10 (is_rank_low kind)
 
 -- what holds of all items and implies more holds more
-each : {X : Type 0} (P Q : X → Type 0) (xs : List X) → ((x : X) → P x → Q x) → All P xs → All Q xs
+pub each : {X : Type 0} (P Q : X → Type 0) (xs : List X) → ((x : X) → P x → Q x) → All P xs → All Q xs
 each P Q [] f h = All-nil Q
 each P Q (x ∷ xs) f h = All-cons Q x xs (f x (All-head P x xs h)) (each P Q xs f (All-tail P x xs h))
 
 -- of a mapped list
-unmapped : {X Y : Type 0} (P : Y → Type 0) (f : X → Y) (xs : List X) → All P (map f xs) → All (λ x. P (f x)) xs
+pub unmapped : {X Y : Type 0} (P : Y → Type 0) (f : X → Y) (xs : List X) → All P (map f xs) → All (λ x. P (f x)) xs
 unmapped P f [] h = All-nil (λ x. P (f x))
 unmapped P f (x ∷ xs) h = All-cons (λ y. P (f y)) x xs (All-head P (f x) (map f xs) h) (unmapped P f xs (All-tail P (f x) (map f xs) h))
 
 -- of both parts of a list
-first_part : {X : Type 0} (P : X → Type 0) (xs ys : List X) → All P (xs ++ ys) → All P xs
+pub first_part : {X : Type 0} (P : X → Type 0) (xs ys : List X) → All P (xs ++ ys) → All P xs
 first_part P [] ys h = All-nil P
 first_part P (x ∷ xs) ys h = All-cons P x xs (All-head P x (xs ++ ys) h) (first_part P xs ys (All-tail P x (xs ++ ys) h))
 
-second_part : {X : Type 0} (P : X → Type 0) (xs ys : List X) → All P (xs ++ ys) → All P ys
+pub second_part : {X : Type 0} (P : X → Type 0) (xs ys : List X) → All P (xs ++ ys) → All P ys
 second_part P [] ys h = h
 second_part P (x ∷ xs) ys h = second_part P xs ys (All-tail P x (xs ++ ys) h)
 
 -- of lists put together
-put_together : {X Y : Type 0} (P : Y → Type 0) (f : X → List Y) (xs : List X) → All (λ x. All P (f x)) xs → All P (flat_map f xs)
+pub put_together : {X Y : Type 0} (P : Y → Type 0) (f : X → List Y) (xs : List X) → All (λ x. All P (f x)) xs → All P (flat_map f xs)
 put_together P f [] h = All-nil P
 put_together P f (x ∷ xs) h =
     All-append P (f x) (flat_map f xs) (All-head (λ y. All P (f y)) x xs h) (put_together P f xs (All-tail (λ y. All P (f y)) x xs h))
@@ -75,7 +75,7 @@ names_stand_lower objects h o ranked e =
     subst (λ (x : Option SceneObject). IfSome x (λ (x : SceneObject). All (StandsBelow objects (rank_of x.kind)) (names_of x))) e found
 
 -- so what stands below an object stands below any number above its rank
-starts_stand_below : (objects : SceneObjects) (n : ℕ) (spot : Spot) (h : ℕ) (o : SceneObject) → AreRanked objects → object_at objects h ≡ Some o → rank_of o.kind ≤ n →
+pub starts_stand_below : (objects : SceneObjects) (n : ℕ) (spot : Spot) (h : ℕ) (o : SceneObject) → AreRanked objects → object_at objects h ≡ Some o → rank_of o.kind ≤ n →
     All (λ start. StandsBelow objects n start.1) (below spot o)
 starts_stand_below objects n spot h o ranked e high =
     named_below (StandsBelow objects n) spot o
@@ -86,7 +86,7 @@ starts_stand_below objects n spot h o ranked e high =
     higher k (Some y) below = omega (arith, below, high)
 
 -- a walk from what is there, and from what is not
-abbrev walk_of : (depth : ℕ) (objects : SceneObjects) (start : Spot × ℕ) → Option SceneObject → List Visit
+abbrev pub walk_of : (depth : ℕ) (objects : SceneObjects) (start : Spot × ℕ) → Option SceneObject → List Visit
 walk_of depth objects start o = option_map_or (λ (x : SceneObject). visit start x ∷ flat_map (walk_from depth objects) (below start.0 x)) o []
 
 -- no object stands below 0
@@ -108,7 +108,7 @@ deeper_by objects ranked n start (Some o) e low deeper =
     ap (λ vs. visit start o ∷ vs) (same_together (walk_from n objects) (walk_from (suc n) objects) (below start.0 o) same)
 
 -- one object deeper is the same where the first object stands below the depth
-one_deeper : (objects : SceneObjects) → AreRanked objects → (n : ℕ) (start : Spot × ℕ) → StandsBelow objects n start.1 → walk_from n objects start ≡ walk_from (suc n) objects start
+pub one_deeper : (objects : SceneObjects) → AreRanked objects → (n : ℕ) (start : Spot × ℕ) → StandsBelow objects n start.1 → walk_from n objects start ≡ walk_from (suc n) objects start
 unfolding walk_from
 one_deeper objects ranked zero start low = nothing_at_depth_0 objects start (object_at objects start.1) low
 one_deeper objects ranked (suc n) start low =
@@ -156,7 +156,7 @@ unfolding walk
 visits_are_objects objects root = visits_are_there objects 10 (at_origin, root)
 
 -- a visit of an object that stands below n
-abbrev IsLow : ℕ → Visit → Type 0
+abbrev pub IsLow : ℕ → Visit → Type 0
 IsLow n v = rank_of v.object.kind < n
 
 low_by : (objects : SceneObjects) → AreRanked objects → (n bound : ℕ) (start : Spot × ℕ) (o : Option SceneObject) → object_at objects start.1 ≡ o →
@@ -170,7 +170,7 @@ low_by objects ranked n bound start (Some o) e low deeper =
     (below start.0 o) deeper (starts_stand_below objects bound start.0 start.1 o ranked e (omega (arith, low)))))
 
 -- from an object that stands below a number all is below it
-all_is_low : (objects : SceneObjects) → AreRanked objects → (n bound : ℕ) (start : Spot × ℕ) → StandsBelow objects bound start.1 → All (IsLow bound) (walk_from n objects start)
+pub all_is_low : (objects : SceneObjects) → AreRanked objects → (n bound : ℕ) (start : Spot × ℕ) → StandsBelow objects bound start.1 → All (IsLow bound) (walk_from n objects start)
 unfolding walk_from
 all_is_low objects ranked zero bound start low = All-nil (IsLow bound)
 all_is_low objects ranked (suc n) bound start low =

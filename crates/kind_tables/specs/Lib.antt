@@ -9,3 +9,4 @@ pub mod Shapes
 pub mod WalkRanks
 pub mod WalkRefusals
 pub mod Walks
+pub mod Typed

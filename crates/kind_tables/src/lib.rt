@@ -12,4 +12,4 @@ pub mod walks;
 
 pub use kinds::{Kind, kind_of, rank, subtypes_of};
 pub use rows::{Row, parameters_of, row_of};
-pub use walks::{walks_end, walks_go_down, walks_visit_objects};
+pub use walks::{a_frame_shows_its_world, walks_end, walks_go_down, walks_visit_objects};

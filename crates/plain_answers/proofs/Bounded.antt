@@ -23,9 +23,9 @@ use Rattle.seq_model.specs.Steps.{Past, after}
 use Rattle.seq_model.specs.declared.calls.Call.{Call}
 use Rattle.seq_model.specs.declared.calls.Call.TheVariants.{GetProperty}
 use Rattle.plain_answers.specs.Bounding.{IsTold}
-use Rattle.plain_journal.proofs.SceneLimits.{IsFaultless, Passes, faultless, primitives_within}
+use Rattle.scene_read.proofs.SceneLimits.{IsFaultless, Passes, faultless, primitives_within}
 use Rattle.plain_journal.proofs.Typed.{sound_is_typed}
-use Rattle.plain_journal.proofs.Walked.{all_hold_below}
+use Rattle.kind_tables.proofs.Walked.{all_hold_below}
 
 -- all primitives of a walk
 abbrev pub AreWithin : Past → ℕ → Type 0

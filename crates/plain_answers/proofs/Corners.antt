@@ -12,7 +12,7 @@ use Rattle.fx_math.specs.declared.scene.Shape.TheVariants.{Triangle, Sphere}
 use Rattle.fx_math.specs.declared.vectors.Vec3.{Vec3}
 use Rattle.picture_model.specs.Limits.{IsBetween, IsPrimitiveWithin, IsShapeWithin}
 use Rattle.seq_model.specs.Answers.{ends_of, greatest_of, least_of}
-use Rattle.plain_journal.proofs.Walked.{each, put_together}
+use Rattle.kind_tables.proofs.WalkLaws.{each, put_together}
 use Rattle.plain_answers.specs.Bounding.{AreCorners, along}
 use Rattle.plain_answers.specs.declared.bounds.Axis.{Axis}
 use Rattle.plain_answers.specs.declared.bounds.Axis.TheVariants as axis

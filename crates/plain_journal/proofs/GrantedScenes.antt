@@ -12,8 +12,9 @@ use Rattle.kind_tables.specs.Kinds.{type_of_kind}
 use Rattle.kind_tables.specs.Rows.{required_row, row_of, rows_of}
 use Rattle.kind_tables.specs.SceneObjects.{SceneObject, default_of, object_at as scene_object_at, sizes_in, value_at, value_named}
 use Rattle.kind_tables.specs.Scenes.{nothing_of, scene}
-use Rattle.kind_tables.specs.WalkRefusals.{fault_of, missing_parameter}
-use Rattle.kind_tables.specs.Walks.{at_origin, walk}
+use Rattle.kind_tables.specs.Typed.{AreFit, HasTypeOf}
+use Rattle.kind_tables.specs.WalkRefusals.{fault_of}
+use Rattle.kind_tables.specs.Walks.{walk}
 use Rattle.kind_tables.specs.declared.kinds.Kind.{Kind}
 use Rattle.kind_tables.specs.declared.kinds.Kind.TheVariants.{Array, CameraOrthographic, FrameDefault}
 use Rattle.kind_tables.specs.declared.rows.Row.{Row}
@@ -32,77 +33,35 @@ use Rattle.seq_model.specs.State.{Object, object_at, scene_object, scene_objects
 use Rattle.seq_model.specs.Steps.{Past, after}
 use Rattle.seq_model.specs.declared.calls.Call.TheVariants.{RenderFrame}
 use Rattle.seq_model.specs.declared.calls.Reply.TheVariants as reply
-use Rattle.plain_journal.proofs.SceneLimits.{faultless, scene_within}
-use Rattle.plain_journal.proofs.Typed.{sound_at, sound_is_typed, value_is}
+use Rattle.scene_read.proofs.SceneLimits.{fit_scene_within}
+use Rattle.plain_journal.proofs.Typed.{sound_at, sound_is_typed, state_has, value_is}
 use Rattle.plain_journal.proofs.Values.{legal_is_well_typed}
-use Rattle.plain_journal.proofs.Walked.{first_visit}
 use Rattle.scene_read.specs.SceneReads.{HasSides, IsReadScene, size_of_frame}
 use Rattle.plain_journal.specs.Worlds.{render_of}
 
--- a test that finds nothing fails at each place
-not_found : {X : Type 0} (p : X → Bool) (xs : List X) (i : ℕ) (x : X) → find p xs ≡ None → slice_get xs i ≡ Some x → p x ≡ false
-not_found p [] i x none there = absurd cc
-not_found p (y ∷ xs) i x none there = by (p y) refl i there (λ i rest. not_found p xs i x rest)
+-- the objects of a legal history are as those of a device always are
+pub legal_is_fit : (history : History) → Legal history → AreFit (scene_objects (after history).state)
+legal_is_fit history legal = record {
+  typed = sound_is_typed (after history).state (legal_is_sound history legal);
+  valued = λ h o name v there found.
+      let of : (q : Object) × ((object_at (after history).state h ≡ Some q) × (scene_object q ≡ o)) = state_has (after history).state h o there in
+      subst (λ (o : SceneObject). value_named name o.committed ≡ Some v → MatchOption (row_of o.kind name) (Unit {0}) (λ row. HasTypeOf row v)) of.1.1
+      (λ found. has_type (row_of of.0.kind name) v
+      (value_is (λ name v. Fits (after history).state of.0.kind name v) name of.0.committed v (sound_at (after history).state h of.0 (legal_is_sound history legal) of.1.0).committed found).typed
+      (value_is (λ name v. is_well_typed v ≡ true) name of.0.committed v (legal_is_well_typed history legal h of.0 of.1.0).committed found)) found;
+  ranked = scenes_are_ranked history legal;
+}
   where
-    by : (b : Bool) → p y ≡ b → (i : ℕ) → slice_get (y ∷ xs) i ≡ Some x → ((i : ℕ) → find p xs ≡ None → slice_get xs i ≡ Some x → p x ≡ false) → p x ≡ false
-    by true is i there rest = let some : Some y ≡ None = sym (ap (λ b. cond b (Some y) (find p xs)) is) ∙ none in absurd cc
-    by false is zero there rest = let same : y ≡ x = cc in sym (ap p same) ∙ is
-    by false is (suc i) there rest = rest i (sym (ap (λ b. cond b (Some y) (find p xs)) is) ∙ none) there
-
--- a complete frame has a size
-has_size : (frame : SceneObject) → frame.kind ≡ FrameDefault → missing_parameter frame ≡ None → (v : Value) × (value_named (codes "size") frame.committed ≡ Some v)
-has_size frame kind complete = by (value_named (codes "size") frame.committed) refl
-  where
-    of_map : (x : Option (List ℕ × Row)) → option_map (λ (row : List ℕ × Row). row.0) x ≡ None → x ≡ None
-    of_map None none = refl
-    of_map (Some x) none = absurd cc
-
-    given : is_none (value_named (codes "size") frame.committed) ≡ false
-    given =
-        not_found (λ (row : List ℕ × Row). row.1.required && is_none (value_named row.0 frame.committed)) (rows_of frame.kind) 3 (codes "size", required_row ty.Uint32Vec2)
-        (of_map (find (λ (row : List ℕ × Row). row.1.required && is_none (value_named row.0 frame.committed)) (rows_of frame.kind)) complete)
-        (ap (λ k. slice_get (rows_of k) 3) kind)
-
-    by : (x : Option Value) → value_named (codes "size") frame.committed ≡ x → (v : Value) × (value_named (codes "size") frame.committed ≡ Some v)
-    by (Some v) is = (v, is)
-    by None is = let wrong : true ≡ false = sym (ap is_none is) ∙ given in absurd cc
-
--- and that has two sides
-two_sides : (v : Value) → type_of v ≡ ty.Uint32Vec2 → is_well_typed v ≡ true → HasSides (Some v) → length (sizes_in (Some v)) ≡ 2
-two_sides (Uint32Vec2 sides) is typed read = read
-two_sides (Named t h) is typed read = let wrong : false ≡ true = sym (ap is_object_type is) ∙ typed in absurd cc
-two_sides (Int32 z) is typed read = absurd cc
-two_sides _ is typed read = absurd cc
+    has_type : (row : Option Row) (v : Value) → MatchOption row (Unit {0}) (λ row. type_of v ≡ row.ty) → is_well_typed v ≡ true → MatchOption row (Unit {0}) (λ row. HasTypeOf row v)
+    has_type None v typed well = tt
+    has_type (Some row) v typed well = (typed, well)
 
 faultless_scene_within : (history : History) (f : ℕ) (frame : Object) → Legal history → object_at (after history).state f ≡ Some frame → frame.kind ≡ FrameDefault →
     fault_of (scene_objects (after history).state) (walk (scene_objects (after history).state) f) ≡ None →
     IsReadScene (value_at (scene_object frame) (codes "size")) (scene (scene_objects (after history).state) f) → IsSceneWithin (scene (scene_objects (after history).state) f)
-unfolding walk
 faultless_scene_within history f frame legal there kind none read =
-    scene_within (scene_objects (after history).state) f (scene_object frame)
-    (sound_is_typed (after history).state (legal_is_sound history legal)) (scenes_are_ranked history legal) seen kind none
-    (ap (λ x. length (sizes_in x)) value ∙ two_sides size.0 typed well (subst HasSides value read.sides)) read
-  where
-    seen : scene_object_at (scene_objects (after history).state) f ≡ Some (scene_object frame)
-    seen = at_map scene_object f (after history).state.objects ∙ ap (option_map scene_object) there
-
-    size : (v : Value) × (value_named (codes "size") frame.committed ≡ Some v)
-    size = has_size (scene_object frame) kind
-        (first_visit (λ v. missing_parameter v.object ≡ None) (scene_objects (after history).state) 9 (at_origin, f) (scene_object frame) seen
-        (faultless (scene_objects (after history).state) (walk (scene_objects (after history).state) f) none).complete)
-
-    value : value_at (scene_object frame) (codes "size") ≡ Some size.0
-    value = ap (λ x. option_or x (default_of frame.kind (codes "size"))) size.1
-
-    fits : Fits (after history).state frame.kind (codes "size") size.0
-    fits = value_is (λ name v. Fits (after history).state frame.kind name v) (codes "size") frame.committed size.0
-        (sound_at (after history).state f frame (legal_is_sound history legal) there).committed size.1
-
-    typed : type_of size.0 ≡ ty.Uint32Vec2
-    typed = subst (λ k. MatchOption (row_of k (codes "size")) (Unit {0}) (λ row. type_of size.0 ≡ row.ty)) kind fits.typed
-
-    well : is_well_typed size.0 ≡ true
-    well = value_is (λ name v. is_well_typed v ≡ true) (codes "size") frame.committed size.0 (legal_is_well_typed history legal f frame there).committed size.1
+    fit_scene_within (scene_objects (after history).state) f (scene_object frame) (legal_is_fit history legal)
+    (at_map scene_object f (after history).state.objects ∙ ap (option_map scene_object) there) kind none read
 
 is_frame : (kind : Kind) → type_of_kind kind ≡ ty.Frame → kind ≡ FrameDefault
 is_frame FrameDefault is = refl

@@ -13,13 +13,10 @@ pub mod PreparedFacts
 pub mod PublicCounts
 pub mod RenderFacts
 pub mod RendersKept
-pub mod SceneLimits
 pub mod SeenTiles
-pub mod ShapeLimits
 pub mod StepFacts
 pub mod Typed
 pub mod UseFacts
 pub mod Values
-pub mod Walked
 pub mod WholeFacts
 pub mod WorldFacts

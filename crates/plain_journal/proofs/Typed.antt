@@ -13,13 +13,9 @@ use Rattle.kind_tables.specs.Rows.{row_of}
 use Rattle.kind_tables.specs.SceneObjects.{Block, SceneObject, SceneObjects, object_at, object_in, object_named, value_named}
 use Rattle.kind_tables.specs.declared.kinds.Kind.TheVariants.{Array}
 use Rattle.seq_model.proofs.Keys.{at_map}
-use Rattle.seq_model.specs.Soundness.{AllSound, ArrayFits, Fits, IsSound, NamesFitting, Takes}
+use Rattle.seq_model.specs.Soundness.{AllSound, ArrayFits, Fits, IsSound, NamesFitting}
+use Rattle.kind_tables.specs.Typed.{IsTyped, Takes}
 use Rattle.seq_model.specs.State.{ArrayState, Object, State, object_at as state_object, scene_object, scene_objects}
-
-pub record IsTyped (objects : SceneObjects) : Type 0 where
-  pub named : (h : ℕ) (o : SceneObject) (name : List ℕ) (p : SceneObject) → object_at objects h ≡ Some o → object_named objects o name ≡ Some p →
-      IsSomeAnd (row_of o.kind name) (λ row. Takes row p.kind)
-  pub array : (h : ℕ) (o : SceneObject) (b : Block) → object_at objects h ≡ Some o → o.block ≡ Some b → o.kind ≡ Array b.elem
 
 -- the value under a name is one of the map's, under that name
 pub value_is : (P : List ℕ → Value → Type 0) (name : List ℕ) (values : List (List ℕ × Value)) (v : Value) → All (λ entry. P entry.0 entry.1) values → value_named name values ≡ Some v → P name v
@@ -35,7 +31,7 @@ value_is P name (e ∷ values) v all found = by (is_at (slice_cmp nat_cmp name) 
     by false is rest = rest (sym (ap (λ t. cond t (Some e.1) (value_named name values)) is) ∙ found)
 
 -- an object of a scene is one of the state
-state_has : (s : State) (h : ℕ) (o : SceneObject) → object_at (scene_objects s) h ≡ Some o → (q : Object) × ((state_object s h ≡ Some q) × (scene_object q ≡ o))
+pub state_has : (s : State) (h : ℕ) (o : SceneObject) → object_at (scene_objects s) h ≡ Some o → (q : Object) × ((state_object s h ≡ Some q) × (scene_object q ≡ o))
 state_has s h o found = by (state_object s h) refl (sym (at_map scene_object h s.objects) ∙ found)
   where
     by : (x : Option Object) → state_object s h ≡ x → option_map scene_object x ≡ Some o → (q : Object) × ((state_object s h ≡ Some q) × (scene_object q ≡ o))

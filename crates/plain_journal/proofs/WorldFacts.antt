@@ -262,11 +262,11 @@ use_made history e w made =
     here = ap (λ world. option_map_or (λ v. v == w) world false) (world_now history e ∙ made) ∙ (let same : (w == w) ≡ true = grind (arith, nat_tests) in same)
 
 -- what is known stays known where an entry renders no world and touches nothing
-same_use : (e : Entry) → ((objects : List ℕ) → is_touching objects e ≡ false) → (last : Option Use) → option_map (use_after e) last ≡ last
+pub same_use : (e : Entry) → ((objects : List ℕ) → is_touching objects e ≡ false) → (last : Option Use) → option_map (use_after e) last ≡ last
 same_use e none None = refl
 same_use e none (Some u) = ap (λ touched. Some (record { reach = u.reach; touched = touched })) (ap (λ b. u.touched || b) (none u.reach) ∙ or_false u.touched)
 
-not_rendered : (history : History) (e : Entry) (w : ℕ) → option_and_then (world_of (after history).state) (rendered e) ≡ None → is_render_of (history ++ e ∷ []) w (length history + 1) ≡ false
+pub not_rendered : (history : History) (e : Entry) (w : ℕ) → option_and_then (world_of (after history).state) (rendered e) ≡ None → is_render_of (history ++ e ∷ []) w (length history + 1) ≡ false
 not_rendered history e w none = ap (λ world. option_map_or (λ v. v == w) world false) (world_now history e ∙ none)
 
 no_build : (history : History) (e : Entry) → option_and_then (world_of (after history).state) (rendered e) ≡ None → builds (history ++ e ∷ []) ≡ builds history
@@ -298,12 +298,12 @@ knows_refused history actor call refused worlds knows =
 has_only : (h k : ℕ) → has h (k ∷ []) ≡ true → h ≡ k
 has_only h k is = grind (arith, nat_tests)
 
-touches_is : (h : ℕ) (e : Entry) → Touches h e → (rendered e ≡ None) × ((objects : List ℕ) → is_touching objects e ≡ has h objects)
+pub touches_is : (h : ℕ) (e : Entry) → Touches h e → (rendered e ≡ None) × ((objects : List ℕ) → is_touching objects e ≡ has h objects)
 touches_is h (Called _ (Commit k) reply.Done) is = (refl, λ objects. ap (λ j. has j objects) (has_only k h is))
 touches_is h (Called _ (UnmapArray k _ _) reply.Done) is = (refl, λ objects. ap (λ j. has j objects) (has_only k h is))
 touches_is h e is = absurd cc
 
-touch_is : (h : ℕ) (e : Entry) → ((objects : List ℕ) → is_touching objects e ≡ has h objects) → (last : Option Use) → option_map (touched_by h) last ≡ option_map (use_after e) last
+pub touch_is : (h : ℕ) (e : Entry) → ((objects : List ℕ) → is_touching objects e ≡ has h objects) → (last : Option Use) → option_map (touched_by h) last ≡ option_map (use_after e) last
 touch_is h e is None = refl
 touch_is h e is (Some u) = ap (λ b. Some (record { reach = u.reach; touched = u.touched || b })) (sym (is u.reach))
 

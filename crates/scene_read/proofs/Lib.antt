@@ -5,3 +5,5 @@ pub mod RefusalFacts
 pub mod ShownFacts
 pub mod StartFacts
 pub mod TestFacts
+pub mod ShapeLimits
+pub mod SceneLimits

@@ -1,10 +1,14 @@
 -- What surfaces show, from what is read of them.
 use Rattle.std.specs.Prelude.{ℕ, List, Option, codes}
-use Rattle.std.specs.Option.{option_and_then, option_map}
+use Rattle.std.specs.Option.{option_and_then, option_map, unwrap_or}
+use Rattle.fx_math.specs.declared.scene.LightRow.{LightRow}
+use Rattle.fx_math.specs.declared.scene.Lighting.{Lighting}
 use Rattle.fx_math.specs.declared.scene.Primitive.{Primitive}
 use Rattle.fx_math.specs.declared.scene.Shape.{Shape}
-use Rattle.kind_tables.specs.SceneObjects.{SceneObjects, id_in, object_at, scalar_of, scalars_of, value_at}
+use Rattle.kind_tables.specs.SceneObjects.{SceneObjects, id_in, object_at, object_named, scalar_of, scalars_of, value_at}
+use Rattle.kind_tables.specs.Scenes.{lighting_by, nothing_of}
 use Rattle.kind_tables.specs.Walks.{Spot}
+use Rattle.kind_tables.specs.declared.kinds.Kind.TheVariants.{RendererDefault}
 use Rattle.scene_read.specs.Reading.{named_in}
 use Rattle.scene_read.specs.Starts.{visited_object}
 use Rattle.scene_read.specs.declared.scenes.Finish.{Finish}
@@ -31,3 +35,7 @@ finished spot finish shape = record {
   object_id = finish.object_id;
   instance_id = spot.instance_id;
 }
+
+-- these lights under the renderer of a frame
+abbrev pub lit : SceneObjects → ℕ → List LightRow → Lighting
+lit objects f lights = lighting_by lights (unwrap_or (object_named objects (visited_object objects f) (codes "renderer")) (nothing_of RendererDefault))

@@ -22,6 +22,6 @@ pub use geometries::shapes;
 pub use objects::Objects;
 pub use readers::Subject;
 pub use refusals::{fault, first_mapped, is_scene_root, walk};
-pub use scenes::{camera, light, scene, sides};
+pub use scenes::{camera, camera_of, light, lights, lit, scene, sides};
 pub use visits::{Spot, Visit, Visits};
 pub use walks::visits_from;

@@ -1,14 +1,18 @@
 //! The scene of a frame, by what a walk visits.
 ghost use Rattle.std.specs.Prelude.{All, IfSome, ◌≡◌, ◌≤◌, ◌^◌, ◌++◌, Some, IsTrue, ◌<◌, IfOk, OnOk, length, map, slice_index_or};
 ghost use Rattle.std.specs.List.{enumerate_from};
-ghost use Rattle.std.specs.Option.{option_to_list};
+ghost use Rattle.std.specs.Option.{option_map, option_to_list};
 ghost use Rattle.dev_types.specs.Bounded.{is_name};
-ghost use Rattle.kind_tables.specs.SceneObjects.{sizes_in};
-ghost use Rattle.kind_tables.specs.Scenes.{camera_by, camera_of, light_at, lighting_of, lights_of, primitives_at, primitives_of, scene, scene_by, side_of, surface_primitives};
+ghost use Rattle.kind_tables.specs.SceneObjects.{object_at, sizes_in};
+ghost use Rattle.kind_tables.specs.Scenes.{camera_by, camera_of, light_at, lights_of, primitives_at, primitives_of, scene, scene_by, side_of, surface_primitives};
+ghost use Rattle.kind_tables.specs.Typed.{AreFit};
+ghost use Rattle.kind_tables.specs.WalkRefusals.{fault_of};
 ghost use Rattle.kind_tables.specs.Walks.{walk};
+ghost use Rattle.kind_tables.specs.declared.kinds.Kind.TheVariants.{FrameDefault};
+ghost use Rattle.picture_model.specs.Limits.{IsSceneWithin};
 ghost use Rattle.scene_read.specs.Reading.{object_of};
 ghost use Rattle.scene_read.specs.SceneReads.{HasSides, IsReadCamera, IsReadLight, IsReadScene, size_of_frame};
-ghost use Rattle.scene_read.specs.Shown.{finish_of, finished, live_in};
+ghost use Rattle.scene_read.specs.Shown.{finish_of, finished, lit, live_in};
 ghost use Rattle.scene_read.specs.Starts.{all_seen, seen, starts_of, visited_object};
 
 use crate::geometries::{placed, shapes};
@@ -75,8 +79,9 @@ pub fn camera<O: Objects>(state: &O, subject: &Subject) -> CameraRow
     }
 }
 
-/// The lights that are visited, in the order of the walk.
-fn lights<O: Objects>(
+/// The lights that are visited, in the order of the walk, with their numbers as committed or by default. The only error is want of
+/// memory.
+pub fn lights<O: Objects>(
     alloc: Global,
     state: &O,
     visits: &[Visit],
@@ -239,31 +244,25 @@ pub fn sides<O: Objects>(state: &O, frame: Handle) -> (u32, u32)
     (side(&size, 0), side(&size, 1))
 }
 
-/// What lights the scene of a frame, by what is visited.
-fn lighting<O: Objects>(
-    alloc: Global,
-    state: &O,
-    frame: Handle,
-    visits: &[Visit],
-) -> Result<Lighting, AllocError>
-    ensures value { IfOk result (λ lighting. lighting ≡ lighting_of (O.objects state.now) (visited_object (O.objects state.now) frame) (all_seen (O.objects state.now) visits.now)) }
-    ensures read { IfOk result (λ lighting. All IsReadLight lighting.lights) }
+/// These lights under the renderer of a frame, with its numbers as committed or by default; without a renderer, under one that was
+/// given nothing.
+pub fn lit<O: Objects>(state: &O, frame: Handle, lights: LightList) -> Lighting
+    ensures { result ≡ lit (O.objects state.now) frame lights }
 {
-    let lights = lights(alloc, state, visits)?;
     let renderer = Subject {
         handle: named(state, frame, "renderer"),
         otherwise: Kind::RendererDefault,
     };
-    Ok(Lighting {
-        lights: LightList::new(lights),
+    Lighting {
+        lights,
         background: color(state, &renderer, "background"),
         ambient_color: color(state, &renderer, "ambientColor"),
         ambient_radiance: scalar(state, &renderer, "ambientRadiance"),
-    })
+    }
 }
 
 /// The camera of a frame; without one, an orthographic camera that was given nothing.
-fn camera_of<O: Objects>(state: &O, frame: Handle) -> CameraRow
+pub fn camera_of<O: Objects>(state: &O, frame: Handle) -> CameraRow
     ensures value { result ≡ camera_of (O.objects state.now) (visited_object (O.objects state.now) frame) }
     ensures read { IsReadCamera result }
 {
@@ -275,7 +274,8 @@ fn camera_of<O: Objects>(state: &O, frame: Handle) -> CameraRow
 }
 
 /// The scene of a frame, by what its walk visits (ANARI 1.0 Specification, World, Surface, Light, Camera, Renderer). It
-/// copies what it shows. The only error is want of memory.
+/// copies what it shows. Where the walk from the frame has no fault, the scene keeps to the limits of pictures. The only error is want
+/// of memory.
 pub fn scene<O: Objects>(
     alloc: Global,
     state: &O,
@@ -285,15 +285,20 @@ pub fn scene<O: Objects>(
     ensures by_visits { IfOk result (λ scene. scene ≡ scene_by (O.objects state.now) (visited_object (O.objects state.now) frame) (all_seen (O.objects state.now) visits.now)) }
     ensures read { IfOk result (λ made. IsReadScene (size_of_frame (O.objects state.now) frame) made) }
     ensures of_frame { visits.now ≡ starts_of (walk (O.objects state.now) frame) → IfOk result (λ made. made ≡ scene (O.objects state.now) frame) }
+    ensures within { AreFit (O.objects state.now)
+        → option_map (λ o. o.kind) (object_at (O.objects state.now) frame) ≡ Some FrameDefault
+        → fault_of (O.objects state.now) (walk (O.objects state.now) frame) ≡ None
+        → visits.now ≡ starts_of (walk (O.objects state.now) frame)
+        → IfOk result IsSceneWithin }
 {
     let visits = visits.as_slice();
     let primitives = primitives(alloc, state, visits)?;
-    let lighting = lighting(alloc, state, frame, visits)?;
+    let lights = lights(alloc, state, visits)?;
     let (width, height) = sides(state, frame);
     Ok(Scene {
         primitives: PrimitiveList::new(primitives),
         camera: camera_of(state, frame),
-        lighting,
+        lighting: lit(state, frame, LightList::new(lights)),
         width,
         height,
     })

@@ -19,7 +19,8 @@ use Rattle.seq_model.proofs.Came.{added, end_is}
 use Rattle.seq_model.proofs.Keys.{at, at_append, at_map}
 use Rattle.seq_model.proofs.Tables.{element_lower, takes_lower}
 use Rattle.seq_model.specs.Life.{has, names_of, objects_of_elements}
-use Rattle.seq_model.specs.Soundness.{AllFit, AllSound, ArrayFits, Fits, IsSound, NamesFitting, Takes}
+use Rattle.seq_model.specs.Soundness.{AllFit, AllSound, ArrayFits, Fits, IsSound, NamesFitting}
+use Rattle.kind_tables.specs.Typed.{Takes}
 use Rattle.seq_model.specs.State.{ArrayState, Object, Phase, Flight, State, changed_at, object_at, with_object}
 use Rattle.seq_model.specs.Steps.{end_flight, end_flights, set_phase}
 

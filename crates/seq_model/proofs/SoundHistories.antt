@@ -34,7 +34,8 @@ use Rattle.seq_model.specs.Histories.{History}
 use Rattle.seq_model.specs.Legal.{IsInPlace, Legal, are_elements_sound, content_of_parameter, is_content_sound}
 use Rattle.seq_model.specs.Life.{has, names_of}
 use Rattle.seq_model.specs.Refusals.{is_parameter_loan_out, is_parameter_out, refusal}
-use Rattle.seq_model.specs.Soundness.{AllSound, Fits, IsSound, LoanFits, NamesFitting, Takes}
+use Rattle.seq_model.specs.Soundness.{AllSound, Fits, IsSound, LoanFits, NamesFitting}
+use Rattle.kind_tables.specs.Typed.{Takes}
 use Rattle.seq_model.specs.State.{Object, ParameterLoan, Phase, Empty, Flight, Done, State, changed_at, content_of_loan, object_at, parameter_loan, with_object}
 use Rattle.seq_model.specs.Steps.{Past, after, change, change_array, commit, discard, effect, end_flights, end_parameter_loan, fresh, fresh_array, holding, lend_parameter, lent, map_channel, next_place, set_phase, set_staged, step, stop, swept, take_in, unmap_channel, unmap_parameter}
 use Rattle.seq_model.specs.declared.calls.Call.{Call}

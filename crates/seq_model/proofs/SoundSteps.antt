@@ -28,7 +28,8 @@ use Rattle.seq_model.proofs.Granted.{AllNone, all_none, does_not_apply}
 use Rattle.seq_model.proofs.Sound.{sound_at}
 use Rattle.seq_model.proofs.Tables.{same_type}
 use Rattle.seq_model.specs.Refusals.{dead, has_elements, has_type, object_of_value, permits, refusal, refusals_of, refusals_of_map_parameter, refusals_of_set, row_at, takes_arrays_of, wrong_kind, wrong_value}
-use Rattle.seq_model.specs.Soundness.{AllSound, ArrayFits, Fits, IsSound, LoanFits, NamesFitting, Takes}
+use Rattle.seq_model.specs.Soundness.{AllSound, ArrayFits, Fits, IsSound, LoanFits, NamesFitting}
+use Rattle.kind_tables.specs.Typed.{Takes}
 use Rattle.seq_model.specs.State.{ArrayState, Object, object_at}
 use Rattle.seq_model.specs.Steps.{Past, zeros}
 use Rattle.seq_model.specs.declared.calls.Call.TheVariants.{SetParameter, MapParameterArray}

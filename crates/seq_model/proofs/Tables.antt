@@ -17,7 +17,7 @@ use Rattle.kind_tables.specs.Rows.{row_of, rows_of}
 use Rattle.kind_tables.specs.declared.kinds.Kind.{Kind}
 use Rattle.kind_tables.specs.declared.kinds.Kind.TheVariants.{CameraOrthographic, CameraPerspective, FrameDefault, GeometrySphere, GeometryTriangle, GroupDefault, InstanceTransform, LightDirectional, LightPoint, MaterialMatte, RendererDefault, SurfaceDefault, WorldDefault, Array}
 use Rattle.kind_tables.specs.declared.rows.Row.{Row}
-use Rattle.seq_model.specs.Soundness.{Takes}
+use Rattle.kind_tables.specs.Typed.{Takes}
 
 -- types with one number are one type
 pub same_type : (t u : DataType) → is_same_type t u ≡ true → t ≡ u

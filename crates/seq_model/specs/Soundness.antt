@@ -10,14 +10,10 @@ use Rattle.dev_types.specs.declared.values.Value.{Value}
 use Rattle.kind_tables.specs.Kinds.{type_of_kind}
 use Rattle.kind_tables.specs.Rows.{row_of}
 use Rattle.kind_tables.specs.SceneObjects.{Block, object_in, objects_in}
+use Rattle.kind_tables.specs.Typed.{Takes}
 use Rattle.kind_tables.specs.declared.kinds.Kind.{Kind}
 use Rattle.kind_tables.specs.declared.kinds.Kind.TheVariants.{Array}
-use Rattle.kind_tables.specs.declared.rows.Row.{Row}
 use Rattle.seq_model.specs.State.{ArrayState, Object, ParameterLoan, State, object_at}
-
--- a row takes an object of this kind
-abbrev pub Takes : Row → Kind → Type 0
-Takes row kind = (type_of_kind kind ≡ row.ty) × MatchOption row.elem (Unit {0}) (λ elem. kind ≡ Array elem)
 
 -- the object h is there, and the parameter of this name takes it
 abbrev pub NamesFitting : State → Kind → List ℕ → ℕ → Type 0

@@ -1,5 +1,5 @@
 -- A prepared world.
-use Rattle.std.proofs.Common.{◌≡◌, ℕ, ◌≤◌, ◌^◌, Bool, true, false, List, All, Option, Some, None, arith, refl, ap, sym, ◌∙◌, length}
+use Rattle.std.proofs.Common.{◌≡◌, ℕ, ◌≤◌, ◌^◌, Bool, true, false, List, All, Option, Some, None, arith, refl, ap, subst, sym, ◌∙◌, length}
 use Rattle.std.specs.Prelude.{cond, nat_lt, IfOk, Result, Ok, Err}
 use Rattle.std.proofs.lemmas.List.Elements.{All-map}
 use Rattle.std.specs.Option.{option_or}
@@ -11,10 +11,13 @@ use Rattle.fx_math.specs.declared.scene.Shape.{Shape}
 use Rattle.kind_tables.specs.SceneObjects.{SceneObjects}
 use Rattle.kind_tables.specs.Scenes.{lights_of, primitives_of}
 use Rattle.kind_tables.specs.WalkRefusals.{fault_of, first_incomplete, first_limit, first_mapped, first_out_of_range, surface_count, too_many, walk_refusal}
-use Rattle.kind_tables.specs.Walks.{Visit}
-use Rattle.picture_model.specs.Limits.{IsShapeWithin}
+use Rattle.kind_tables.specs.Typed.{AreFit}
+use Rattle.kind_tables.specs.Walks.{Visit, walk}
+use Rattle.picture_model.specs.Limits.{IsLightWithin, IsPrimitiveWithin, IsShapeWithin}
 use Rattle.picture_model.specs.Shading.{placed}
-use Rattle.world_snapshot.specs.Worlds.{AreShapesWithin}
+use Rattle.scene_read.proofs.SceneLimits.{IsShownWithin, fit_shown_within}
+use Rattle.scene_read.specs.SceneReads.{IsReadLight}
+use Rattle.world_snapshot.specs.Worlds.{AreShapesWithin, IsShownBy, IsWorldWithin, World}
 
 -- neither of two
 both_none : {X : Type 0} (a b : Option X) → option_or a b ≡ None → (a ≡ None) × (b ≡ None)
@@ -48,3 +51,20 @@ any_ok P (Err e) all = tt
 -- shapes that keep to the limits do so as a search sees them
 pub placed_within : (ps : List Primitive) → AreShapesWithin ps → All (λ p. IsShapeWithin p.1) (placed ps)
 placed_within ps within = All-map (λ (p : Place × Shape). IsShapeWithin p.1) (λ (p : Primitive). (p.place, p.shape)) ps within
+
+-- a walk that is not refused has no fault
+pub no_fault : (objects : SceneObjects) (visits : List Visit) → walk_refusal objects visits ≡ None → fault_of objects visits ≡ None
+unfolding walk_refusal
+no_fault objects visits none = (both_none (first_mapped visits) (fault_of objects visits) none).1
+
+-- what is shown of a walk that is not refused is within the limits, where its lights were read as values
+pub world_within : (objects : SceneObjects) (root : ℕ) (visits : List Visit) (world : World) → AreFit objects → visits ≡ walk objects root → walk_refusal objects (walk objects root) ≡ None →
+    IsShownBy objects visits world → All IsReadLight (lights_of visits) → IsWorldWithin world
+world_within objects root visits world fit seen none shown read =
+    let within : IsShownWithin objects root = fit_shown_within objects root fit (no_fault objects (walk objects root) none) in
+    let lights : world.lights ≡ lights_of (walk objects root) = shown.lights ∙ ap lights_of seen in
+    record {
+      primitives = subst (All IsPrimitiveWithin) (sym (shown.primitives ∙ ap (primitives_of objects) seen)) within.primitives;
+      few = subst (λ ls. length ls ≤ 256) (sym lights) within.few;
+      lights = subst (All IsLightWithin) (sym lights) (within.lights (subst (All IsReadLight) (ap lights_of seen) read));
+    }

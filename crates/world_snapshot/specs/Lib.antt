@@ -3,3 +3,4 @@ pub mod Captured
 pub mod Rising
 pub mod Worlds
 pub mod Works
+pub mod Views

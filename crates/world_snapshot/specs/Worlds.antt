@@ -1,9 +1,12 @@
 -- What contracts see of a world that is prepared.
-use Rattle.std.specs.Prelude.{◌≡◌, Bool, true, List, All, length}
+use Rattle.std.specs.Prelude.{◌≡◌, ◌≤◌, Bool, true, List, All, length}
 use Rattle.fx_math.specs.declared.scene.LightRow.{LightRow}
 use Rattle.fx_math.specs.declared.scene.Primitive.{Primitive}
 use Rattle.bvh_build.specs.declared.trees.Node.{Node}
-use Rattle.picture_model.specs.Limits.{IsShapeWithin}
+use Rattle.kind_tables.specs.SceneObjects.{SceneObjects}
+use Rattle.kind_tables.specs.Scenes.{lights_of, primitives_of}
+use Rattle.kind_tables.specs.Walks.{Visit}
+use Rattle.picture_model.specs.Limits.{IsLightWithin, IsPrimitiveWithin, IsShapeWithin}
 use Rattle.picture_model.specs.Shading.{placed}
 use Rattle.ray_kernel.specs.Searches.{IsTreeFor}
 use Rattle.world_snapshot.specs.Rising.{AreRising}
@@ -25,3 +28,14 @@ IsTreeOver nodes ps = AreShapesWithin ps → IsTreeFor nodes (placed ps)
 pub record IsIndexed (ps : List Primitive) (nodes : List Node) (in_order : Bool) : Type 0 where
   pub tree : IsTreeOver nodes ps
   pub rising : in_order ≡ true → AreRising ps (length ps)
+
+-- what a world shows keeps to the limits of pictures
+pub record IsWorldWithin (world : World) : Type 0 where
+  pub primitives : All IsPrimitiveWithin world.primitives
+  pub few : length world.lights ≤ 256
+  pub lights : All IsLightWithin world.lights
+
+-- the primitives and the lights of a walk
+pub record IsShownBy (objects : SceneObjects) (visits : List Visit) (world : World) : Type 0 where
+  pub primitives : world.primitives ≡ primitives_of objects visits
+  pub lights : world.lights ≡ lights_of visits

@@ -4,14 +4,15 @@
 
 mod arrays;
 mod geometries;
-mod lights;
 mod placings;
 mod prepared;
 mod readers;
 mod rows;
 mod searches;
 mod surfaces;
+mod views;
 mod works;
 
-pub use prepared::{Prepared, prepare};
+pub use prepared::{Prepared, prepare, prepare_visited};
+pub use views::{View, view_of};
 pub use works::Work;

@@ -1,17 +1,17 @@
 //! Prepared worlds.
-ghost use Rattle.std.specs.Prelude.{◌≡◌, ◌<◌, ◌≤◌, ◌^◌, None, Some, IfErr, IfOk, length, slice_get};
+ghost use Rattle.std.specs.Prelude.{ℕ, ◌≡◌, ◌<◌, ◌≤◌, ◌^◌, None, Some, IfErr, IfOk, length, slice_get};
 ghost use Rattle.std.specs.Option.{option_map};
 ghost use Rattle.kind_tables.specs.SceneObjects.{object_at};
 ghost use Rattle.kind_tables.specs.Scenes.{lights_of, primitives_of};
+ghost use Rattle.kind_tables.specs.Typed.{AreFit};
 ghost use Rattle.kind_tables.specs.WalkRefusals.{walk_refusal};
 ghost use Rattle.kind_tables.specs.Walks.{walk};
 ghost use Rattle.kind_tables.specs.declared.kinds.Kind.TheVariants.{WorldDefault};
 ghost use Rattle.picture_model.specs.Shading.{primitive_at};
 ghost use Rattle.scene_read.specs.Roots.{IsWalkRefusal};
-ghost use Rattle.scene_read.specs.Starts.{all_seen};
-ghost use Rattle.world_snapshot.specs.Worlds.{IsTreeOver};
+ghost use Rattle.scene_read.specs.Starts.{all_seen, starts_of};
+ghost use Rattle.world_snapshot.specs.Worlds.{IsShownBy, IsTreeOver, IsWorldWithin};
 
-use crate::lights::lights_of;
 use crate::rows::{Rows, are_within};
 use crate::searches::{are_rising, first_primitive, primitive_by_rank};
 use bvh_build::{Tree, build};
@@ -19,8 +19,8 @@ use dev_types::{Handle, NoMemory, Refused};
 use fx_math::{LightList, Place, Primitive, Shape};
 use picture_model::PrimSource;
 use ray_kernel::tree_over;
-use scene_read::{Objects, Visits, walk};
-use std::alloc::Global;
+use scene_read::{Objects, Visits, lights, walk};
+use std::alloc::{AllocError, Global};
 use std::marker::Model;
 use std::sync::Arc;
 
@@ -94,22 +94,6 @@ impl World {
 }
 
 impl Prepared {
-    /// Prepares the world of all that is visited.
-    fn of<O: Objects>(alloc: Global, state: &O, visits: &Visits) -> Result<Prepared, NoMemory>
-        requires { length (primitives_of (O.objects state.now) (all_seen (O.objects state.now) visits.now)) ≤ 2 ^ 20 }
-        ensures primitives { IfOk result (λ p. p.primitives ≡ primitives_of (O.objects state.now) (all_seen (O.objects state.now) visits.now)) }
-        ensures lights { IfOk result (λ p. p.lights ≡ lights_of (all_seen (O.objects state.now) visits.now)) }
-    {
-        let visits = visits.as_slice();
-        let rows = Rows::of(alloc, state, visits)?;
-        let lights = lights_of(alloc, state, visits)?;
-        let tree = tree_of(alloc, &rows)?;
-        match Arc::new(alloc, World::new(rows, lights, tree)) {
-            Ok(world) => Ok(Prepared { world }),
-            Err(_) => Err(NoMemory),
-        }
-    }
-
     /// One more handle to the same prepared world. The only error is want of memory.
     pub fn share(&self, _alloc: Global) -> Result<Prepared, NoMemory>
         ensures { IfOk result (λ p. p ≡ self.now) }
@@ -124,6 +108,13 @@ impl Prepared {
         ensures { result.now ≡ self.now.lights }
     {
         &self.world.lights
+    }
+
+    /// A copy of the lights. The only error is want of memory.
+    pub(crate) fn copied_lights(&self, alloc: Global) -> Result<LightList, NoMemory>
+        ensures { IfOk result (λ lights. lights ≡ self.now.lights) }
+    {
+        Ok(copied_lights(alloc, self.lights())?)
     }
 
     /// The tree over boxes of the primitives, of at most 21 levels. Where all shapes keep to their limits (points within 2^28, radii
@@ -180,8 +171,48 @@ fn tree_of(alloc: Global, rows: &Rows) -> Result<Tree, NoMemory>
     }
 }
 
+/// A copy of some lights. The only error is want of memory.
+fn copied_lights(alloc: Global, lights: &LightList) -> Result<LightList, AllocError>
+    ensures { IfOk result (λ copy. copy ≡ lights.now) }
+{
+    let mut copy = Vec::new(alloc);
+    for i in 0..lights.len() {
+        copy.push(*lights.get(i))?;
+    }
+    Ok(LightList::new(copy))
+}
+
+/// Prepares all that is visited on a walk for rendering (ANARI 1.0 Specification, World, Group, Instance, Surface): its primitives and
+/// its lights are those that the objects show now, whatever is committed, mapped or unmapped later; no array's bytes are copied. The
+/// only error is want of memory.
+///
+/// The walk is one that was not refused, from a frame or from a world: a frame shows what its world shows.
+pub fn prepare_visited<O: Objects>(
+    alloc: Global,
+    state: &O,
+    visits: &Visits,
+) -> Result<Prepared, NoMemory>
+    requires { length (primitives_of (O.objects state.now) (all_seen (O.objects state.now) visits.now)) ≤ 2 ^ 20 }
+    ensures shown { IfOk result (λ p. IsShownBy (O.objects state.now) (all_seen (O.objects state.now) visits.now) p) }
+    ensures within { (root : ℕ)
+        → AreFit (O.objects state.now)
+        → visits.now ≡ starts_of (walk (O.objects state.now) root)
+        → walk_refusal (O.objects state.now) (walk (O.objects state.now) root) ≡ None
+        → IfOk result IsWorldWithin }
+{
+    let visits = visits.as_slice();
+    let rows = Rows::of(alloc, state, visits)?;
+    let lights = lights(alloc, state, visits)?;
+    let tree = tree_of(alloc, &rows)?;
+    match Arc::new(alloc, World::new(rows, LightList::new(lights), tree)) {
+        Ok(world) => Ok(Prepared { world }),
+        Err(_) => Err(NoMemory),
+    }
+}
+
 /// Prepares a live world for rendering (ANARI 1.0 Specification, World, Group, Instance, Surface). Its primitives and lights are those
-/// that the walk from it shows now, whatever is committed, mapped or unmapped later; no array's bytes are copied.
+/// that the walk from it shows now, whatever is committed, mapped or unmapped later; no array's bytes are copied. What it shows keeps
+/// to the limits of pictures.
 ///
 /// # Errors
 ///
@@ -192,6 +223,7 @@ pub fn prepare<O: Objects>(alloc: Global, state: &O, world: Handle) -> Result<Pr
     requires { option_map (λ o. o.kind) (object_at (O.objects state.now) world) ≡ Some WorldDefault }
     ensures primitives { IfOk result (λ p. p.primitives ≡ primitives_of (O.objects state.now) (walk (O.objects state.now) world)) }
     ensures lights { IfOk result (λ p. p.lights ≡ lights_of (walk (O.objects state.now) world)) }
+    ensures within { AreFit (O.objects state.now) → IfOk result IsWorldWithin }
     ensures sound { IfOk result (λ p. walk_refusal (O.objects state.now) (walk (O.objects state.now) world) ≡ None) }
     ensures refused { IfErr result (λ refused. IsWalkRefusal (O.objects state.now) world refused) }
 {
@@ -199,7 +231,7 @@ pub fn prepare<O: Objects>(alloc: Global, state: &O, world: Handle) -> Result<Pr
         Ok(visits) => visits,
         Err(refused) => return Err(refused),
     };
-    match Prepared::of(alloc, state, &visits) {
+    match prepare_visited(alloc, state, &visits) {
         Ok(prepared) => Ok(prepared),
         Err(NoMemory) => Err(Refused::NoMemory),
     }

@@ -4,38 +4,14 @@ use Rattle.std.specs.Prelude.{slice_get}
 use Rattle.std.specs.List.{filter_map, flat_map}
 use Rattle.std.specs.Option.{option_and_then, option_map_or}
 use Rattle.std.proofs.lemmas.List.Elements.{All-nil, All-cons, All-head, All-tail, All-append}
-use Rattle.kind_tables.proofs.WalkLaws.{deeper_is_the_same}
+use Rattle.kind_tables.proofs.WalkLaws.{deeper_is_the_same, each, first_part, put_together, second_part, unmapped, walk_of}
 use Rattle.kind_tables.specs.Rows.{rows_of}
 use Rattle.kind_tables.specs.SceneObjects.{SceneObject, SceneObjects, object_at, object_in, object_named, value_named}
 use Rattle.kind_tables.specs.WalkRanks.{AreRanked}
 use Rattle.kind_tables.specs.Walks.{Spot, Visit, at_element, at_origin, at_parameters_of, below, named_elements, named_parameters, visit, walk, walk_from}
 use Rattle.kind_tables.specs.declared.rows.Row.{Row}
 
--- what holds of all items and implies more holds more
-pub each : {X : Type 0} (P Q : X → Type 0) (xs : List X) → ((x : X) → P x → Q x) → All P xs → All Q xs
-each P Q [] f h = All-nil Q
-each P Q (x ∷ xs) f h = All-cons Q x xs (f x (All-head P x xs h)) (each P Q xs f (All-tail P x xs h))
-
--- of both parts of a list
-first_part : {X : Type 0} (P : X → Type 0) (xs ys : List X) → All P (xs ++ ys) → All P xs
-first_part P [] ys h = All-nil P
-first_part P (x ∷ xs) ys h = All-cons P x xs (All-head P x (xs ++ ys) h) (first_part P xs ys (All-tail P x (xs ++ ys) h))
-
-second_part : {X : Type 0} (P : X → Type 0) (xs ys : List X) → All P (xs ++ ys) → All P ys
-second_part P [] ys h = h
-second_part P (x ∷ xs) ys h = second_part P xs ys (All-tail P x (xs ++ ys) h)
-
--- of a mapped list
-unmapped : {X Y : Type 0} (P : Y → Type 0) (f : X → Y) (xs : List X) → All P (map f xs) → All (λ x. P (f x)) xs
-unmapped P f [] h = All-nil (λ x. P (f x))
-unmapped P f (x ∷ xs) h = All-cons (λ y. P (f y)) x xs (All-head P (f x) (map f xs) h) (unmapped P f xs (All-tail P (f x) (map f xs) h))
-
--- of lists put together
-pub put_together : {X Y : Type 0} (P : Y → Type 0) (f : X → List Y) (xs : List X) → All (λ x. All P (f x)) xs → All P (flat_map f xs)
-put_together P f [] h = All-nil P
-put_together P f (x ∷ xs) h =
-    All-append P (f x) (flat_map f xs) (All-head (λ y. All P (f y)) x xs h) (put_together P f xs (All-tail (λ y. All P (f y)) x xs h))
-
+-- of lists taken apart
 taken_apart : {X Y : Type 0} (P : Y → Type 0) (f : X → List Y) (xs : List X) → All P (flat_map f xs) → All (λ x. All P (f x)) xs
 taken_apart P f [] h = All-nil (λ x. All P (f x))
 taken_apart P f (x ∷ xs) h =
@@ -62,10 +38,6 @@ listed {X} {Y} R f (z ∷ xs) (suc i) x y there is all = by (f z) refl (λ rest.
     by : (w : Option Y) → f z ≡ w → (All R (filter_map f xs) → R y) → R y
     by None none rest = rest (rw none at all)
     by (Some w) some rest = rest (All-tail R w (filter_map f xs) (rw some at all))
-
--- a walk from what is there, and from what is not
-abbrev walk_of : (depth : ℕ) (objects : SceneObjects) (start : Spot × ℕ) → Option SceneObject → List Visit
-walk_of depth objects start o = option_map_or (λ (x : SceneObject). visit start x ∷ flat_map (walk_from depth objects) (below start.0 x)) o []
 
 -- P holds of the visits of all that a visited object names, where it is there
 abbrev pub HoldsBelow : (Visit → Type 0) → SceneObjects → Visit → Type 0

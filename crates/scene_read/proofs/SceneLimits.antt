@@ -1,24 +1,26 @@
 -- The scene of a walk without a fault is within the limits of pictures.
-use Rattle.std.proofs.Common.{ℕ, ◌+◌, ◌^◌, ◌/◌, ◌≡◌, ◌≤◌, ◌∙◌, Bool, true, false, List, [], ◌∷◌, All, Option, Some, None, map, refl, sym, ap, subst, length, arith}
-use Rattle.std.specs.Prelude.{codes, cond, nat_lt, slice_get, slice_index_or, IsSomeAnd, nat_le}
-use Rattle.std.specs.List.{enumerate_from, list_all, range_with_len}
-use Rattle.std.specs.Option.{option_and_then, option_map, option_map_or, option_or, unwrap_or}
+use Rattle.std.proofs.Common.{ℕ, zero, suc, ◌+◌, ◌^◌, ◌/◌, ◌≡◌, ◌≤◌, ◌∙◌, Bool, true, false, List, [], ◌∷◌, All, Option, Some, None, map, refl, sym, ap, subst, length, arith}
+use Rattle.std.specs.Prelude.{codes, cond, nat_lt, slice_get, slice_index_or, IsSomeAnd, MatchOption, nat_le, ◌&&◌}
+use Rattle.std.specs.List.{enumerate_from, find, list_all, range_with_len}
+use Rattle.std.specs.Option.{is_none, option_and_then, option_map, option_map_or, option_or, unwrap_or}
 use Rattle.std.proofs.lemmas.Bool.{and_parts, leb-true, ltb-false}
 use Rattle.std.proofs.lemmas.List.Elements.{All-nil, All-cons, All-head, All-tail, All-map}
+use Rattle.dev_types.specs.DataTypes.{is_object_type}
+use Rattle.dev_types.specs.ValueBytes.{is_well_typed, type_of}
 use Rattle.dev_types.specs.declared.data_types.DataType.TheVariants as ty
 use Rattle.dev_types.specs.declared.refusals.Refused.TheVariants.{Incomplete, OutOfRange, TooMany}
 use Rattle.dev_types.specs.declared.values.Value.{Value}
+use Rattle.dev_types.specs.declared.values.Value.TheVariants.{Int32, Uint32Vec2, Object as Named}
 use Rattle.fx_math.specs.Mat34.{linear, placed}
 use Rattle.fx_math.specs.Vec3.{reach}
 use Rattle.fx_math.specs.declared.scene.LightRow.{LightRow}
 use Rattle.fx_math.specs.declared.scene.LightRow.TheVariants.{Directional, Point}
 use Rattle.fx_math.specs.declared.scene.Shape.{Shape}
 use Rattle.fx_math.specs.declared.transforms.Mat34.{Mat34}
-use Rattle.kind_tables.proofs.WalkLaws.{visits_are_objects}
 use Rattle.kind_tables.specs.Kinds.{type_of_kind}
 use Rattle.kind_tables.specs.Ranges.{broken_parameter, geometry_tests, is_side, tests_of}
 use Rattle.kind_tables.specs.Rows.{array_row, required_row, row_of, rows_of}
-use Rattle.kind_tables.specs.SceneObjects.{Block, SceneObject, SceneObjects, array_named, element, elements, indices_in, object_at, object_named, scalar_of, scalars_of, sizes_in, value_at, vector_of}
+use Rattle.kind_tables.specs.SceneObjects.{Block, SceneObject, SceneObjects, array_named, element, elements, indices_in, object_at, object_named, default_of, scalar_of, scalars_of, sizes_in, value_at, value_named, vector_of}
 use Rattle.kind_tables.specs.Scenes.{camera_by, camera_of, light_at, light_by, lighting_by, lights_of, nothing_of, primitive, primitives_at, primitives_by, primitives_of, scene, scene_by, side_of, surface_primitives, surface_shapes}
 use Rattle.kind_tables.specs.Shapes.{common_radius, corners_by, corners_of, next_three, own_radii, positions_of, shapes_by, shapes_of}
 use Rattle.kind_tables.specs.WalkRanks.{AreRanked}
@@ -26,12 +28,13 @@ use Rattle.kind_tables.specs.WalkRefusals.{missing_parameter, fault_of, first_an
 use Rattle.kind_tables.specs.Walks.{Visit, at_origin, at_parameters_of, visit, walk}
 use Rattle.kind_tables.specs.declared.kinds.Kind.{Kind}
 use Rattle.kind_tables.specs.declared.kinds.Kind.TheVariants.{CameraOrthographic, CameraPerspective, FrameDefault, GeometrySphere, GeometryTriangle, LightDirectional, LightPoint, MaterialMatte, RendererDefault, SurfaceDefault, Array}
+use Rattle.kind_tables.specs.declared.rows.Row.{Row}
 use Rattle.picture_model.specs.Limits.{IsCameraWithin, IsLightWithin, IsLightingWithin, IsPrimitiveWithin, IsSceneWithin, IsShapeWithin, IsSide}
-use Rattle.seq_model.specs.Soundness.{Takes}
-use Rattle.plain_journal.proofs.ShapeLimits.{AllPass, amount_within, both_pass, color_within, none_broken, number_between, point_within, radii_pass, spheres_within, triangles_within}
-use Rattle.plain_journal.proofs.Typed.{IsTyped}
-use Rattle.plain_journal.proofs.Walked.{HoldsBelow, all_hold_below, chosen, each, first_visit, holds_of_named, named_handle, put_together}
-use Rattle.scene_read.specs.SceneReads.{IsReadCamera, IsReadLight, IsReadScene}
+use Rattle.scene_read.proofs.ShapeLimits.{AllPass, amount_within, both_pass, color_within, none_broken, number_between, point_within, radii_pass, spheres_within, triangles_within}
+use Rattle.kind_tables.specs.Typed.{AreFit, HasTypeOf, IsTyped, Takes}
+use Rattle.kind_tables.proofs.WalkLaws.{each, put_together, visits_are_objects}
+use Rattle.kind_tables.proofs.Walked.{HoldsBelow, all_hold_below, chosen, first_visit, holds_of_named, named_handle}
+use Rattle.scene_read.specs.SceneReads.{HasSides, IsReadCamera, IsReadLight, IsReadScene}
 
 -- the tests of a visit that breaks nothing
 abbrev pub Passes : SceneObjects → Visit → Type 0
@@ -226,7 +229,7 @@ both_hold P Q [] more h = All-nil Q
 both_hold P Q (x ∷ xs) more h =
     All-cons Q x xs (All-head (λ x. P x → Q x) x xs more (All-head P x xs h)) (both_hold P Q xs (All-tail (λ x. P x → Q x) x xs more) (All-tail P x xs h))
 
-lights_within : (objects : SceneObjects) (visits : List Visit) → All (Passes objects) visits → All IsReadLight (lights_of visits) → All IsLightWithin (lights_of visits)
+pub lights_within : (objects : SceneObjects) (visits : List Visit) → All (Passes objects) visits → All IsReadLight (lights_of visits) → All IsLightWithin (lights_of visits)
 unfolding lights_of
 lights_within objects visits pass read =
     both_hold IsReadLight IsLightWithin (lights_of visits) (chosen (Passes objects) (λ light. IsReadLight light → IsLightWithin light) light_at visits (light_within objects) pass) read
@@ -332,22 +335,44 @@ primitives_within objects f typed below =
     (λ v below there. visit_within objects typed v there below) below)
     (visits_are_objects objects f))
 
-scene_by_within : (objects : SceneObjects) (f : ℕ) (frame : SceneObject) → IsTyped objects → AreRanked objects → object_at objects f ≡ Some frame → frame.kind ≡ FrameDefault →
-    IsFaultless objects (walk objects f) → length (sizes_in (value_at frame (codes "size"))) ≡ 2 → IsReadCamera (camera_of objects frame) → All IsReadLight (lights_of (walk objects f)) →
-    IsSceneWithin (scene_by objects frame (walk objects f))
-unfolding walk scene_by
-scene_by_within objects f frame typed ranked there kind faultless two camera lights =
+-- what a frame adds to the world that it shows, under the world's lights
+pub record IsFrameWithin (objects : SceneObjects) (frame : SceneObject) (lights : List LightRow) : Type 0 where
+  pub camera : IsCameraWithin (camera_of objects frame)
+  pub lighting : IsLightingWithin (lighting_by lights (unwrap_or (object_named objects frame (codes "renderer")) (nothing_of RendererDefault)))
+  pub width : IsSide (side_of frame 0)
+  pub height : IsSide (side_of frame 1)
+
+pub frame_within : (objects : SceneObjects) (f : ℕ) (frame : SceneObject) (lights : List LightRow) → IsTyped objects → AreRanked objects → object_at objects f ≡ Some frame → frame.kind ≡ FrameDefault →
+    IsFaultless objects (walk objects f) → length (sizes_in (value_at frame (codes "size"))) ≡ 2 → IsReadCamera (camera_of objects frame) → length lights ≤ 256 → All IsLightWithin lights →
+    IsFrameWithin objects frame lights
+unfolding walk
+frame_within objects f frame lights typed ranked there kind faultless two camera few within =
     let below : All (HoldsBelow (Passes objects) objects) (walk objects f) = all_hold_below (Passes objects) objects f ranked faultless.passing in
     let here : HoldsBelow (Passes objects) objects (visit (at_origin, f) frame) = first_visit (HoldsBelow (Passes objects) objects) objects 9 (at_origin, f) frame there below in
     let own : Passes objects (visit (at_origin, f) frame) = first_visit (Passes objects) objects 9 (at_origin, f) frame there faultless.passing in
     let tests : AllPass (tests_of FrameDefault at_origin.transform frame) = subst (λ k. AllPass (tests_of k at_origin.transform frame)) kind own.0 in
     let sides : IsSide (side_of frame 0) × IsSide (side_of frame 1) = sides_within (sizes_in (value_at frame (codes "size"))) two tests.0 in
     record {
-      primitives = primitives_within objects f typed below;
       camera = camera_of_frame objects f frame typed there kind here camera;
-      lighting = lighting_of_frame objects f frame typed there kind here (lights_of (walk objects f)) faultless.lights (lights_within objects (walk objects f) faultless.passing lights);
+      lighting = lighting_of_frame objects f frame typed there kind here lights few within;
       width = sides.0;
       height = sides.1;
+    }
+
+scene_by_within : (objects : SceneObjects) (f : ℕ) (frame : SceneObject) → IsTyped objects → AreRanked objects → object_at objects f ≡ Some frame → frame.kind ≡ FrameDefault →
+    IsFaultless objects (walk objects f) → length (sizes_in (value_at frame (codes "size"))) ≡ 2 → IsReadCamera (camera_of objects frame) → All IsReadLight (lights_of (walk objects f)) →
+    IsSceneWithin (scene_by objects frame (walk objects f))
+unfolding scene_by
+scene_by_within objects f frame typed ranked there kind faultless two camera lights =
+    let below : All (HoldsBelow (Passes objects) objects) (walk objects f) = all_hold_below (Passes objects) objects f ranked faultless.passing in
+    let within : IsFrameWithin objects frame (lights_of (walk objects f)) =
+    frame_within objects f frame (lights_of (walk objects f)) typed ranked there kind faultless two camera faultless.lights (lights_within objects (walk objects f) faultless.passing lights) in
+    record {
+      primitives = primitives_within objects f typed below;
+      camera = within.camera;
+      lighting = within.lighting;
+      width = within.width;
+      height = within.height;
     }
 
 -- the scene of a frame whose walk has no fault is within the limits, where its size has two sides, and its numbers were read as values
@@ -358,3 +383,88 @@ scene_within objects f frame typed ranked there kind none two read =
     let is : scene objects f ≡ scene_by objects frame (walk objects f) = ap (λ x. scene_by objects (unwrap_or x (nothing_of FrameDefault)) (walk objects f)) there in
     let same : IsReadScene (value_at frame (codes "size")) (scene_by objects frame (walk objects f)) = subst (IsReadScene (value_at frame (codes "size"))) is read in
     subst IsSceneWithin (sym is) (scene_by_within objects f frame typed ranked there kind (faultless objects (walk objects f) none) two same.camera same.lights)
+
+-- an object whose kind is told
+pub found_kind : (x : Option SceneObject) (kind : Kind) → option_map (λ (o : SceneObject). o.kind) x ≡ Some kind → (o : SceneObject) × ((x ≡ Some o) × (o.kind ≡ kind))
+found_kind None kind is = absurd cc
+found_kind (Some o) kind is = (o, (refl, (let same : o.kind ≡ kind = cc in same)))
+
+-- a test that finds nothing fails at each place
+not_found : {X : Type 0} (p : X → Bool) (xs : List X) (i : ℕ) (x : X) → find p xs ≡ None → slice_get xs i ≡ Some x → p x ≡ false
+not_found p [] i x none there = absurd cc
+not_found p (y ∷ xs) i x none there = by (p y) refl i there (λ i rest. not_found p xs i x rest)
+  where
+    by : (b : Bool) → p y ≡ b → (i : ℕ) → slice_get (y ∷ xs) i ≡ Some x → ((i : ℕ) → find p xs ≡ None → slice_get xs i ≡ Some x → p x ≡ false) → p x ≡ false
+    by true is i there rest = let some : Some y ≡ None = sym (ap (λ b. cond b (Some y) (find p xs)) is) ∙ none in absurd cc
+    by false is zero there rest = let same : y ≡ x = cc in sym (ap p same) ∙ is
+    by false is (suc i) there rest = rest i (sym (ap (λ b. cond b (Some y) (find p xs)) is) ∙ none) there
+
+-- a complete frame has a size
+pub has_size : (frame : SceneObject) → frame.kind ≡ FrameDefault → missing_parameter frame ≡ None → (v : Value) × (value_named (codes "size") frame.committed ≡ Some v)
+has_size frame kind complete = by (value_named (codes "size") frame.committed) refl
+  where
+    of_map : (x : Option (List ℕ × Row)) → option_map (λ (row : List ℕ × Row). row.0) x ≡ None → x ≡ None
+    of_map None none = refl
+    of_map (Some x) none = absurd cc
+
+    given : is_none (value_named (codes "size") frame.committed) ≡ false
+    given =
+        not_found (λ (row : List ℕ × Row). row.1.required && is_none (value_named row.0 frame.committed)) (rows_of frame.kind) 3 (codes "size", required_row ty.Uint32Vec2)
+        (of_map (find (λ (row : List ℕ × Row). row.1.required && is_none (value_named row.0 frame.committed)) (rows_of frame.kind)) complete)
+        (ap (λ k. slice_get (rows_of k) 3) kind)
+
+    by : (x : Option Value) → value_named (codes "size") frame.committed ≡ x → (v : Value) × (value_named (codes "size") frame.committed ≡ Some v)
+    by (Some v) is = (v, is)
+    by None is = let wrong : true ≡ false = sym (ap is_none is) ∙ given in absurd cc
+
+-- and that has two sides
+pub two_sides : (v : Value) → type_of v ≡ ty.Uint32Vec2 → is_well_typed v ≡ true → HasSides (Some v) → length (sizes_in (Some v)) ≡ 2
+two_sides (Uint32Vec2 sides) is typed read = read
+two_sides (Named t h) is typed read = let wrong : false ≡ true = sym (ap is_object_type is) ∙ typed in absurd cc
+two_sides (Int32 z) is typed read = absurd cc
+two_sides _ is typed read = absurd cc
+
+-- the size of a complete frame whose values have the types of their parameters
+pub sized : (objects : SceneObjects) (f : ℕ) (frame : SceneObject) → AreFit objects → object_at objects f ≡ Some frame → frame.kind ≡ FrameDefault →
+    IsFaultless objects (walk objects f) → HasSides (value_at frame (codes "size")) → length (sizes_in (value_at frame (codes "size"))) ≡ 2
+unfolding walk
+sized objects f frame fit there kind faultless sides =
+    ap (λ x. length (sizes_in x)) value ∙ two_sides size.0 typed.0 typed.1 (subst HasSides value sides)
+  where
+    size : (v : Value) × (value_named (codes "size") frame.committed ≡ Some v)
+    size = has_size frame kind (first_visit (λ v. missing_parameter v.object ≡ None) objects 9 (at_origin, f) frame there faultless.complete)
+
+    value : value_at frame (codes "size") ≡ Some size.0
+    value = ap (λ x. option_or x (default_of frame.kind (codes "size"))) size.1
+
+    typed : HasTypeOf (required_row ty.Uint32Vec2) size.0
+    typed = subst (λ k. MatchOption (row_of k (codes "size")) (Unit {0}) (λ row. HasTypeOf row size.0)) kind (fit.valued f frame (codes "size") size.0 there size.1)
+
+-- so the scene of a frame whose walk has no fault is within the limits
+pub fit_scene_within : (objects : SceneObjects) (f : ℕ) (frame : SceneObject) → AreFit objects → object_at objects f ≡ Some frame → frame.kind ≡ FrameDefault →
+    fault_of objects (walk objects f) ≡ None → IsReadScene (value_at frame (codes "size")) (scene objects f) → IsSceneWithin (scene objects f)
+fit_scene_within objects f frame fit there kind none read =
+    scene_within objects f frame fit.typed fit.ranked there kind none (sized objects f frame fit there kind (faultless objects (walk objects f) none) read.sides) read
+
+-- and so is what a frame adds to a world
+pub fit_frame_within : (objects : SceneObjects) (f : ℕ) (frame : SceneObject) (lights : List LightRow) → AreFit objects → object_at objects f ≡ Some frame → frame.kind ≡ FrameDefault →
+    fault_of objects (walk objects f) ≡ None → HasSides (value_at frame (codes "size")) → IsReadCamera (camera_of objects frame) → length lights ≤ 256 → All IsLightWithin lights →
+    IsFrameWithin objects frame lights
+fit_frame_within objects f frame lights fit there kind none sides camera few within =
+    let faultless_ : IsFaultless objects (walk objects f) = faultless objects (walk objects f) none in
+    frame_within objects f frame lights fit.typed fit.ranked there kind faultless_ (sized objects f frame fit there kind faultless_ sides) camera few within
+
+-- what a walk without a fault shows, from any object
+pub record IsShownWithin (objects : SceneObjects) (root : ℕ) : Type 0 where
+  pub primitives : All IsPrimitiveWithin (primitives_of objects (walk objects root))
+  pub few : length (lights_of (walk objects root)) ≤ 256
+  pub lights : All IsReadLight (lights_of (walk objects root)) → All IsLightWithin (lights_of (walk objects root))
+
+pub fit_shown_within : (objects : SceneObjects) (root : ℕ) → AreFit objects → fault_of objects (walk objects root) ≡ None → IsShownWithin objects root
+fit_shown_within objects root fit none =
+    let faultless_ : IsFaultless objects (walk objects root) = faultless objects (walk objects root) none in
+    record {
+      primitives = primitives_within objects root fit.typed (all_hold_below (Passes objects) objects root fit.ranked faultless_.passing);
+      few = faultless_.lights;
+      lights = lights_within objects (walk objects root) faultless_.passing;
+    }
