@@ -1,9 +1,10 @@
-ghost use Rattle.std.specs.Prelude.{◌≡◌, ◌↔◌, length, IsTrue, Some};
-ghost use Rattle.array_objects.specs.Stores.{mapped, unmapped, changed_at, IsOut};
+ghost use Rattle.std.specs.Prelude.{◌≡◌, ◌↔◌, length, IsTrue, Some, option_map};
+ghost use Rattle.array_objects.specs.Stores.{block_at, mapped, unmapped, changed_at, IsOut};
 
 use crate::lent::Lent;
 use dev_types::{Bytes, DataType, Handle, Origin};
 use std::collections::BTreeMap;
+use std::mem;
 
 /// The memory of an array (ANARI 1.0 Specification, array memory): `count` elements of type `ty`, each
 /// `stride` bytes behind the one before, from the front of the bytes on.
@@ -37,11 +38,13 @@ impl Array {
         self.loan = Some(number);
     }
 
-    fn take_back(&mut self, content: Bytes)
-        ensures { self.new ≡ unmapped content self.old }
+    // The content that it had comes back.
+    fn take_back(&mut self, content: Bytes) -> Bytes
+        ensures array { self.new ≡ unmapped content self.old }
+        ensures old { result ≡ self.old.block.bytes }
     {
-        self.block.bytes = content;
         self.loan = None;
+        mem::replace(&mut self.block.bytes, content)
     }
 }
 
@@ -54,11 +57,13 @@ pub fn note_loan(arrays: &mut BTreeMap<Handle, Array>, h: Handle, number: u64)
     }
 }
 
-/// Gives the array at the handle this content, and notes that it is lent no more.
-pub fn take_back(arrays: &mut BTreeMap<Handle, Array>, h: Handle, content: Bytes)
-    ensures { arrays.new.entries ≡ changed_at arrays.old.entries h (unmapped content) }
+/// Gives the array at the handle this content, and notes that it is lent no more. The content that it had comes back.
+pub fn take_back(arrays: &mut BTreeMap<Handle, Array>, h: Handle, content: Bytes) -> Option<Bytes>
+    ensures arrays { arrays.new.entries ≡ changed_at arrays.old.entries h (unmapped content) }
+    ensures old { result ≡ option_map (λ b. b.bytes) (block_at arrays.old.entries h) }
 {
-    if let Some(array) = arrays.get_mut(&h) {
-        array.take_back(content);
+    match arrays.get_mut(&h) {
+        Some(array) => Some(array.take_back(content)),
+        None => None,
     }
 }

@@ -80,18 +80,19 @@ impl ArrayStore {
         Ok(lent)
     }
 
-    /// Ends a loan. The array's content is then `content`, which has as many bytes as the loan; this
-    /// takes no memory.
+    /// Ends a loan. The array's content is then `content`, which has as many bytes as the loan; the
+    /// content that it had comes back. This takes no memory.
     ///
     /// # Errors
     ///
     /// `NotMapped` exactly where no loan of this array, number and length is out in this store. The loan
     /// comes back, and the store is as it was.
-    pub fn unmap(&mut self, lent: Lent, content: Bytes) -> Result<(), (Refused, Lent)>
+    pub fn unmap(&mut self, lent: Lent, content: Bytes) -> Result<Bytes, (Refused, Lent)>
         requires { length content ≡ length lent.elements.bytes }
         ensures out { IsOk result ↔ IsOut (array_at self.old lent.array) lent.number (length lent.elements.bytes) }
         ensures unmapped { OnOk result (self.new ≡ changed_at self.old lent.array (unmapped content)) }
         ensures changes { OnOk result (ChangesAt self.old self.new lent.array (option_map (unmapped content) (array_at self.old lent.array))) }
+        ensures old { IfOk result (λ old. Some old ≡ option_map (λ b. b.bytes) (block_at self.old lent.array)) }
         ensures cause { IfErr result (λ e. e.0 ≡ NotMapped) }
         ensures returned { IfErr result (λ e. e.1 ≡ lent) }
         ensures refused { OnErr result (self.new ≡ self.old) }
@@ -99,9 +100,11 @@ impl ArrayStore {
         if !self.is_out(&lent) {
             return Err((Refused::NotMapped, lent));
         }
-        take_back(&mut self.arrays, lent.array(), content);
+        let Some(old) = take_back(&mut self.arrays, lent.array(), content) else {
+            unreachable!();
+        };
         lent.give_up();
-        Ok(())
+        Ok(old)
     }
 
     // A loan of the array, which is not noted yet.

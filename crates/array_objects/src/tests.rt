@@ -68,7 +68,7 @@ fn given_back(
     };
     assert!(rt; content.as_slice().len() == lent.bytes().len());
     match store.unmap(lent, content) {
-        Ok(()) => Ok(None),
+        Ok(_old) => Ok(None),
         Err((refused, lent)) => {
             assert!(rt; refused == Refused::NotMapped);
             Ok(Some(lent))
