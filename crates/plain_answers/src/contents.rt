@@ -10,10 +10,10 @@ ghost use Rattle.plain_answers.specs.Cleaning.{cleaned_at};
 ghost use Rattle.seq_model.specs.Contents.{bytes_for_array, bytes_for_parameter, cleaned, entered};
 ghost use Rattle.seq_model.specs.Steps.{zeros};
 
+use kind_tables::object_in;
 use dev_types::{Bytes, DataType, Handle, NoMemory, Value, size_of};
 use plain_journal::record::Record;
 use plain_objects::changes::loan_with;
-use plain_objects::elements::object_in;
 use seq_model::Call;
 use std::alloc::{AllocError, Global};
 

@@ -7,7 +7,6 @@ ghost use Rattle.scene_read.specs.Starts.{all_seen};
 ghost use Rattle.seq_model.specs.State.{scene_objects};
 
 use dev_types::{Channel, DataType, Handle, NoMemory, Refused};
-use plain_journal::pictures::place_of_channel;
 use plain_journal::record::{Record, first_of};
 use plain_objects::objects::Shows;
 use scene_read::{Visits, fault, first_mapped, visits_from};
@@ -51,7 +50,7 @@ fn no_channel(past: &Record, h: Handle, channel: Channel) -> Option<Refused>
 {
     match past.shows(h) {
         Shows::Picture(ticket) => {
-            let has_channel = past.render(ticket).channels[place_of_channel(channel)];
+            let has_channel = past.render(ticket).channels[channel.number() as usize];
             (!has_channel).then_some(Refused::NoChannel)
         }
         _ => None,

@@ -25,7 +25,7 @@ use dev_types::{
     Bytes, Channel, DataType, Handle, Name, Names, NoMemory, ParamInfo, TypeList, Value,
 };
 use fx_math::Scene;
-use kind_tables::{Kind, Row, kind_of, parameters_of, row_of, subtypes_of};
+use kind_tables::{Kind, Row, kind_of, parameters_of, row_of, subtypes_of, type_of_channel};
 use picture_model::{Plane, picture};
 use plain_journal::record::Record;
 use plain_objects::objects::Shows;
@@ -33,16 +33,6 @@ use plain_objects::stage::Stage;
 use scene_read::{Visits, scene};
 use seq_model::{Call, Reply};
 use std::alloc::{AllocError, Global};
-
-/// The type of what a channel shows.
-fn type_of_channel(channel: Channel) -> DataType
-    ensures { result ≡ type_of_channel channel }
-{
-    match channel {
-        Channel::Color => DataType::Ufixed8Vec4,
-        _ => DataType::Uint32,
-    }
-}
 
 /// Which picture a channel shows.
 fn plane_of(channel: Channel) -> Plane
@@ -56,17 +46,6 @@ fn plane_of(channel: Channel) -> Plane
     }
 }
 
-/// A name that stands in a table.
-fn name_of(text: &str) -> Name
-    requires { IsTrue (is_name text.now) }
-    ensures { result ≡ text.now }
-{
-    match Name::new(text) {
-        Some(name) => name,
-        None => unreachable!(),
-    }
-}
-
 /// A list of names that stand in a table.
 fn names_of(alloc: Global, texts: &[&str]) -> Result<Names, NoMemory>
     requires { IsTrue (list_all is_name (map (λ text. text.now) texts.now)) }
@@ -74,7 +53,7 @@ fn names_of(alloc: Global, texts: &[&str]) -> Result<Names, NoMemory>
 {
     let mut names = Vec::new(alloc);
     for text in texts {
-        names.push(name_of(text)).map_err(AllocError::from)?;
+        names.push(Name::of(text)).map_err(AllocError::from)?;
     }
     Ok(Names::of(names))
 }

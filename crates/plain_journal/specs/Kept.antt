@@ -19,13 +19,6 @@ use Rattle.plain_journal.specs.declared.renders.Render.{Render}
 abbrev pub WasRendered : Past → ℕ → Phase → Type 0
 WasRendered past h phase = MatchOption (ticket_of phase) (Unit {0}) (λ t. frame_at past.seen t ≡ Some h)
 
--- the place of a channel among the four
-abbrev pub place_of_channel : Channel → ℕ
-place_of_channel channel.Color = 0
-place_of_channel channel.PrimitiveId = 1
-place_of_channel channel.ObjectId = 2
-place_of_channel channel.InstanceId = 3
-
 -- the render with this ticket
 abbrev pub render_with : ℕ → List Render → Option Render
 render_with t renders = find (λ r. r.ticket == t) renders
@@ -33,7 +26,7 @@ render_with t renders = find (λ r. r.ticket == t) renders
 -- the render of a history at a place, as it is kept
 pub record Shows (history : History) (t : ℕ) (r : Render) : Type 0 where
   pub scene : r.scene ≡ scene_at history t
-  pub channels : (c : Channel) → slice_index_or r.channels (place_of_channel c) false ≡ has_channel history t c
+  pub channels : (c : Channel) → slice_index_or r.channels (number_of_channel c) false ≡ has_channel history t c
   pub within : IsSceneWithin r.scene
 
 -- each render is kept, and none that did not happen yet

@@ -6,7 +6,7 @@ use Rattle.dev_types.specs.declared.handles.Channel.{Channel}
 use Rattle.kind_tables.specs.SceneObjects.{value_named}
 use Rattle.kind_tables.specs.Walks.{visited, walk}
 use Rattle.seq_model.specs.State.{State, object_at, scene_objects}
-use Rattle.plain_journal.specs.Kept.{place_of_channel}
+use Rattle.dev_types.specs.Channels.{number_of_channel}
 use Rattle.plain_journal.specs.Worlds.{world_of}
 
 -- all that the walk from an object visits
@@ -19,7 +19,7 @@ asks_for s f c = is_some (option_and_then (λ o. value_named (name_of_channel c)
 
 -- each channel is marked by whether the frame asks for it
 abbrev pub AreAsked : State → ℕ → List Bool → Type 0
-AreAsked s f marks = (c : Channel) → slice_index_or marks (place_of_channel c) false ≡ asks_for s f c
+AreAsked s f marks = (c : Channel) → slice_index_or marks (number_of_channel c) false ≡ asks_for s f c
 
 -- the world of a frame with all that the walk from it visits
 abbrev pub world_reach : State → ℕ → Option (ℕ × List ℕ)
