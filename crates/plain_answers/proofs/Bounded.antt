@@ -24,7 +24,7 @@ use Rattle.seq_model.specs.declared.calls.Call.{Call}
 use Rattle.seq_model.specs.declared.calls.Call.TheVariants.{GetProperty}
 use Rattle.plain_answers.specs.Bounding.{IsTold}
 use Rattle.scene_read.proofs.SceneLimits.{IsFaultless, Passes, faultless, primitives_within}
-use Rattle.plain_journal.proofs.Typed.{sound_is_typed}
+use Rattle.past_laws.proofs.Typed.{sound_is_typed}
 use Rattle.kind_tables.proofs.Walked.{all_hold_below}
 
 -- all primitives of a walk

@@ -31,6 +31,7 @@ use Rattle.seq_model.specs.declared.calls.Call.{Call}
 use Rattle.seq_model.specs.declared.calls.Call.TheVariants.{NewObject, NewArray, Retain, Release, SetParameter, UnsetParameter, UnsetAll, Commit, MapArray, UnmapArray, MapParameterArray, UnmapParameterArray, RenderFrame, FrameReady, DiscardFrame, MapFrame, UnmapFrame, GetProperty, Subtypes, ObjectInfo, ParameterInfo}
 use Rattle.seq_model.specs.declared.calls.Reply.{Reply}
 use Rattle.seq_model.specs.declared.calls.Reply.TheVariants as reply
+use Rattle.past_laws.specs.Rendered.{HaveTiles}
 
 -- a reply that tells of a flight saw none of its tiles, and there are some
 abbrev pub SeesNone : Reply → Type 0
@@ -44,10 +45,6 @@ like_itself (reply.NotReady given of) none = (given, subst (λ n. n < of) (sym n
 like_itself (reply.Denied (InFlight given of)) none = (given, subst (λ n. n < of) (sym none.0) none.1, refl)
 like_itself (reply.Denied _) none = refl
 like_itself _ none = refl
-
--- every flight of a past has tiles
-abbrev pub HaveTiles : Past → Type 0
-HaveTiles past = (h t : ℕ) → phase_at past h ≡ Flight t → 0 < tiles_at past.seen t
 
 -- such a refusal
 abbrev SeenIn : Option Refused → Type 0

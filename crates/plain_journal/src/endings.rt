@@ -4,7 +4,7 @@ ghost use Rattle.std.specs.Prelude.{ℕ, ◌≡◌, ◌+◌, ◌≤◌, ◌++◌
 ghost use Rattle.std.specs.List.{filter_map, list_any};
 ghost use Rattle.plain_journal.specs.Endings.{ended};
 ghost use Rattle.plain_journal.specs.Leaving.{IsEnding};
-ghost use Rattle.plain_journal.specs.Open.{IsOpen};
+ghost use Rattle.past_laws.specs.Open.{IsOpen};
 ghost use Rattle.plain_objects.specs.Sweeping.{entry_at};
 ghost use Rattle.seq_model.specs.Builds.{builds};
 ghost use Rattle.seq_model.specs.Legal.{Legal, is_flying};

@@ -1,6 +1,8 @@
 //! What frames show, and the renders that made it.
 ghost use Rattle.std.specs.Prelude.{◌≡◌, ◌==◌, IsSome, option_copied};
-ghost use Rattle.plain_journal.specs.Kept.{Shows, WasRendered, place_of_channel, render_with};
+ghost use Rattle.plain_journal.specs.Kept.{Shows, render_with};
+ghost use Rattle.past_laws.specs.Prepared.{place_of_channel};
+ghost use Rattle.past_laws.specs.Rendered.{WasRendered};
 ghost use Rattle.plain_objects.specs.Shown.{phase_of};
 ghost use Rattle.seq_model.specs.Histories.{frame_at};
 ghost use Rattle.seq_model.specs.Pictures.{tiles_at};

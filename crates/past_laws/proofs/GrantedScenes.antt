@@ -34,10 +34,10 @@ use Rattle.seq_model.specs.Steps.{Past, after}
 use Rattle.seq_model.specs.declared.calls.Call.TheVariants.{RenderFrame}
 use Rattle.seq_model.specs.declared.calls.Reply.TheVariants as reply
 use Rattle.scene_read.proofs.SceneLimits.{fit_scene_within}
-use Rattle.plain_journal.proofs.Typed.{sound_at, sound_is_typed, state_has, value_is}
-use Rattle.plain_journal.proofs.Values.{legal_is_well_typed}
+use Rattle.past_laws.proofs.Typed.{sound_at, sound_is_typed, state_has, value_is}
+use Rattle.past_laws.proofs.Values.{legal_is_well_typed}
 use Rattle.scene_read.specs.SceneReads.{HasSides, IsReadScene, size_of_frame}
-use Rattle.plain_journal.specs.Worlds.{render_of}
+use Rattle.past_laws.specs.Worlds.{render_of}
 
 -- the objects of a legal history are as those of a device always are
 pub legal_is_fit : (history : History) → Legal history → AreFit (scene_objects (after history).state)

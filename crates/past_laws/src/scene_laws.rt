@@ -9,10 +9,10 @@ ghost use Rattle.seq_model.specs.State.{scene_objects};
 ghost use Rattle.seq_model.specs.Steps.{after};
 ghost use Rattle.seq_model.specs.declared.calls.Call.TheVariants.{RenderFrame};
 ghost use Rattle.scene_read.specs.SceneReads.{IsReadScene, size_of_frame};
-ghost use Rattle.plain_journal.specs.Worlds.{render_of};
+ghost use Rattle.past_laws.specs.Worlds.{render_of};
 
-/// The scene of a frame whose render is granted is within the limits of pictures, and so is that of a frame that was
-/// rendered. Its numbers have 32 bits where they were read as values.
+/// The scene of a frame whose render is granted is within the limits of pictures, and so is that of
+/// a frame that was rendered. Its numbers have 32 bits where they were read as values.
 pub fn scenes_of_renders_are_within_the_limits()
     ensures granted { (history : History) (f : ℕ)
         → Legal history

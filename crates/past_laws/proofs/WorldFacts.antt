@@ -29,8 +29,8 @@ use Rattle.seq_model.specs.declared.calls.Call.TheVariants.{Commit, RenderFrame,
 use Rattle.seq_model.specs.declared.calls.Entry.{Entry}
 use Rattle.seq_model.specs.declared.calls.Entry.TheVariants.{Called}
 use Rattle.seq_model.specs.declared.calls.Reply.TheVariants as reply
-use Rattle.plain_journal.proofs.Places.{any_alike, any_none, count_alike, filter_alike, last_more, last_within, range_more}
-use Rattle.plain_journal.specs.Worlds.{KnowsWorlds, Touches, Use, Worlds, last_use, render_of, touched_by, use_at, use_of, wants_build, world_of}
+use Rattle.past_laws.proofs.Places.{any_alike, any_none, count_alike, filter_alike, last_more, last_within, range_more}
+use Rattle.past_laws.specs.Worlds.{KnowsWorlds, Touches, Use, Worlds, last_use, render_of, touched_by, use_at, use_of, wants_build, world_of}
 
 -- the world of a render is that of its frame
 of_frame : (s : State) (frame : Option ℕ) →

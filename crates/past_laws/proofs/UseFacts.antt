@@ -9,8 +9,8 @@ use Rattle.seq_model.specs.declared.calls.Call.TheVariants.{Commit, Retain, Rend
 use Rattle.seq_model.specs.declared.calls.Entry.TheVariants.{Called}
 use Rattle.seq_model.specs.declared.calls.Reply.{Reply}
 use Rattle.seq_model.specs.declared.calls.Reply.TheVariants as reply
-use Rattle.plain_journal.proofs.WorldFacts.{knows_still}
-use Rattle.plain_journal.specs.Worlds.{KnowsWorlds, Worlds, render_of, world_of}
+use Rattle.past_laws.proofs.WorldFacts.{knows_still}
+use Rattle.past_laws.specs.Worlds.{KnowsWorlds, Worlds, render_of, world_of}
 
 -- a render of a frame without a world
 pub unworlded : (history : History) (actor f : ℕ) (worlds : Worlds) → world_of (after history).state f ≡ None → KnowsWorlds history worlds → KnowsWorlds (history ++ render_of actor f ∷ []) worlds

@@ -22,7 +22,7 @@ use Rattle.seq_model.specs.declared.calls.Call.{Call}
 use Rattle.seq_model.specs.declared.calls.Call.TheVariants.{NewArray, UnmapArray, MapParameterArray, UnmapParameterArray}
 use Rattle.seq_model.specs.declared.calls.Reply.{Reply}
 use Rattle.seq_model.specs.declared.calls.Reply.TheVariants as reply
-use Rattle.plain_objects.specs.Suits.{IsLoanOf, Suits}
+use Rattle.past_laws.specs.Suits.{IsLoanOf, Suits}
 
 -- a reply that denies nothing
 abbrev pub IsGranted : Reply → Type 0
