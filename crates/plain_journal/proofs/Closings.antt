@@ -18,7 +18,7 @@ use Rattle.seq_model.specs.declared.calls.Entry.TheVariants.{Left, Closed}
 use Rattle.plain_journal.proofs.FlightFacts.{flights_have, flights_without, no_ticket_zero}
 use Rattle.plain_journal.proofs.Legality.{follow_more, open_lets, unseen_more}
 use Rattle.plain_journal.proofs.Places.{range_more}
-use Rattle.plain_journal.specs.Endings.{ended}
+use Rattle.seq_model.specs.Endings.{ended}
 use Rattle.plain_journal.specs.Leaving.{IsEnding, first_flights}
 use Rattle.plain_journal.specs.Open.{IsOpen, IsUnseen}
 
