@@ -9,7 +9,7 @@ use Rattle.kind_tables.specs.Kinds.{kind_of}
 use Rattle.kind_tables.specs.Rows.{parameters_of, row_of}
 use Rattle.kind_tables.specs.declared.kinds.Kind.{Kind}
 use Rattle.kind_tables.specs.declared.rows.Row.{Row}
-use Rattle.plain_answers.specs.Waiting.{waited_flight}
+use Rattle.seq_model.specs.Endings.{waited_flight}
 use Rattle.seq_model.proofs.Granted.{AllNone, all_none}
 use Rattle.seq_model.specs.Answers.{answer, granted, info_of, mapped_picture, property_by, readiness}
 use Rattle.seq_model.specs.Refusals.{phase_at, refusal, refusals_of, refusal_of_info, in_flight, no_picture}

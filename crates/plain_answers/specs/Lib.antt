@@ -1,3 +1,2 @@
 pub mod Bounding
 pub mod Cleaning
-pub mod Waiting

@@ -1,5 +1,5 @@
 //! The bytes with which loans come back.
-ghost use Rattle.std.specs.Prelude.{◌≡◌, ◌<◌, ◌≤◌, ◌^◌, ◌++◌, ◌+◌, ◌*◌, IfOk, IfErr, IfSome, OnOk, drop, length, slice_index, take, true};
+ghost use Rattle.std.specs.Prelude.{◌≡◌, ◌<◌, ◌≤◌, ◌^◌, ◌++◌, ◌+◌, ◌*◌, IfOk, IfErr, IfSome, OnOk, drop, length, slice_index, take, true, if◌then◌else◌};
 ghost use Rattle.std.specs.Int.{from_le_bytes, w64};
 ghost use Rattle.std.specs.Option.{option_map};
 ghost use Rattle.dev_types.specs.Blocks.{element_of};
@@ -8,9 +8,10 @@ ghost use Rattle.dev_types.specs.ValueBytes.{value_of};
 ghost use Rattle.kind_tables.specs.SceneObjects.{object_in};
 ghost use Rattle.plain_answers.specs.Cleaning.{cleaned_at};
 ghost use Rattle.seq_model.specs.Contents.{bytes_for_array, bytes_for_parameter, cleaned, entered};
+ghost use Rattle.seq_model.specs.Refusals.{is_array_loan_out, is_parameter_loan_out};
 ghost use Rattle.seq_model.specs.Steps.{zeros};
 
-use dev_types::{Bytes, DataType, Handle, NoMemory, Value, size_of};
+use dev_types::{Bytes, DataType, Handle, Name, NoMemory, Value, size_of};
 use plain_journal::record::Record;
 use plain_objects::changes::loan_with;
 use plain_objects::elements::object_in;
@@ -196,24 +197,67 @@ fn bytes_for_parameter(
     }
 }
 
-/// A call as it is entered: what an unmap brings names only what is there. The only error is want of memory, and hands the
-/// call back unchanged.
+/// The bytes with which an unmap of an array is entered: cleaned where the loan is out, and else as they were handed in.
+/// The only error is want of memory.
+fn entered_for_array(
+    past: &Record,
+    alloc: Global,
+    h: Handle,
+    number: u64,
+    bytes: Bytes,
+) -> Result<Bytes, (NoMemory, Bytes)>
+    ensures ok { IfOk result (λ block. block ≡ (if is_array_loan_out past.now.state h number (length bytes) then bytes_for_array past.now h bytes else bytes)) }
+    ensures err { IfErr result (λ refused. refused.1 ≡ bytes) }
+{
+    let stage = past.stage();
+    if stage.is_array_loan_out(h, number, bytes.as_slice().len()) {
+        bytes_for_array(past, alloc, h, bytes)
+    } else {
+        Ok(bytes)
+    }
+}
+
+/// The bytes with which an unmap of an array for a parameter is entered: cleaned where the loan is out, and else as they
+/// were handed in. The only error is want of memory.
+fn entered_for_parameter(
+    past: &Record,
+    alloc: Global,
+    h: Handle,
+    name: &Name,
+    number: u64,
+    bytes: Bytes,
+) -> Result<Bytes, (NoMemory, Bytes)>
+    ensures ok { IfOk result (λ block. block ≡ (if is_parameter_loan_out past.now.state h name.now number (length bytes) then bytes_for_parameter past.now h number bytes else bytes)) }
+    ensures err { IfErr result (λ refused. refused.1 ≡ bytes) }
+{
+    let stage = past.stage();
+    if stage.is_parameter_loan_out(h, name, number, bytes.as_slice().len()) {
+        bytes_for_parameter(past, alloc, h, number, bytes)
+    } else {
+        Ok(bytes)
+    }
+}
+
+/// A call as it is entered: what an unmap brings back from a loan that is out names only what is there, and any other
+/// bytes stay as they were handed in. The only error is want of memory, and hands the call back unchanged.
 #[tactic(auto, unfolding(seq_model::specs::Contents::entered))]
 pub fn entered(past: &Record, alloc: Global, call: Call) -> Result<Call, (NoMemory, Call)>
     ensures ok { IfOk result (λ made. made ≡ entered past.now call) }
     ensures err { IfErr result (λ refused. refused.1 ≡ call) }
 {
     match call {
-        Call::UnmapArray { h, number, bytes } => match bytes_for_array(past, alloc, h, bytes) {
-            Ok(bytes) => Ok(Call::UnmapArray { h, number, bytes }),
-            Err((none, bytes)) => Err((none, Call::UnmapArray { h, number, bytes })),
-        },
+        Call::UnmapArray { h, number, bytes } => {
+            match entered_for_array(past, alloc, h, number, bytes) {
+                Ok(bytes) => Ok(Call::UnmapArray { h, number, bytes }),
+                Err((none, bytes)) => Err((none, Call::UnmapArray { h, number, bytes })),
+            }
+        }
         Call::UnmapParameterArray {
             h,
             name,
             number,
             bytes,
-        } => match bytes_for_parameter(past, alloc, h, number, bytes) {
+        } => match entered_for_parameter(past, alloc, h, &name, number, bytes) {
             Ok(bytes) => Ok(Call::UnmapParameterArray {
                 h,
                 name,

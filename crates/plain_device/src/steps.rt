@@ -1,6 +1,6 @@
 //! One call more: it is answered, and entered with its reply.
 ghost use Rattle.std.specs.Prelude.{◌≡◌, ◌≤◌, ◌++◌, IfErr, IsSome, ℕ, OnErr, OnOk, length, true};
-ghost use Rattle.plain_journal.specs.Endings.{reply_to};
+ghost use Rattle.seq_model.specs.Endings.{reply_to};
 ghost use Rattle.past_laws.specs.Open.{IsOpen};
 ghost use Rattle.seq_model.specs.Answers.{answer};
 ghost use Rattle.seq_model.specs.Histories.{rendered};

@@ -19,7 +19,7 @@ use Rattle.past_laws.proofs.FlightFacts.{flights_have, flights_without, no_ticke
 use Rattle.plain_journal.proofs.Legality.{unseen_more}
 use Rattle.past_laws.proofs.OpenFacts.{follow_more, open_lets}
 use Rattle.past_laws.proofs.Places.{range_more}
-use Rattle.plain_journal.specs.Endings.{ended}
+use Rattle.seq_model.specs.Endings.{ended}
 use Rattle.plain_journal.specs.Leaving.{IsEnding, first_flights}
 use Rattle.plain_journal.specs.Unseen.{IsUnseen}
 use Rattle.past_laws.specs.Open.{IsOpen}

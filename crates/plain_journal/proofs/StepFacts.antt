@@ -45,7 +45,7 @@ use Rattle.plain_journal.specs.declared.prepared.Prepared.{Prepared}
 use Rattle.std.specs.Map.{keys_of}
 use Rattle.dev_types.specs.declared.refusals.Refused.{Refused}
 use Rattle.seq_model.specs.Refusals.{refusal}
-use Rattle.plain_journal.specs.Endings.{reply_to}
+use Rattle.seq_model.specs.Endings.{reply_to}
 
 -- what is known of a device is unseen, and its renders are within the limits
 pub was_unseen : (stage : State) (old : Books) → IsWhole stage old → IsUnseen old.journal.items

@@ -1,6 +1,5 @@
 pub mod Booked
 pub mod Counting
-pub mod Endings
 pub mod Kept
 pub mod Leaving
 pub mod Ready

@@ -2,7 +2,7 @@
 //! (ANARI 1.0 Specification, object lifetime).
 ghost use Rattle.std.specs.Prelude.{ℕ, ◌≡◌, ◌+◌, ◌≤◌, ◌++◌, ◌∷◌, [], length, true};
 ghost use Rattle.std.specs.List.{filter_map, list_any};
-ghost use Rattle.plain_journal.specs.Endings.{ended};
+ghost use Rattle.seq_model.specs.Endings.{ended};
 ghost use Rattle.plain_journal.specs.Leaving.{IsEnding};
 ghost use Rattle.past_laws.specs.Open.{IsOpen};
 ghost use Rattle.plain_objects.specs.Sweeping.{entry_at};

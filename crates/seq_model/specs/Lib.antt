@@ -2,6 +2,7 @@ pub mod Answers
 pub mod Builds
 pub mod Contents
 pub mod Deaths
+pub mod Endings
 pub mod Ends
 pub mod Examples
 pub mod Extensions
