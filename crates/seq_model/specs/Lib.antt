@@ -11,6 +11,7 @@ pub mod Legal
 pub mod Lending
 pub mod Life
 pub mod Pictures
+pub mod Properties
 pub mod Refusals
 pub mod Room
 pub mod Soundness
