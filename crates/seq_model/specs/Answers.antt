@@ -5,7 +5,6 @@ use Rattle.dev_types.specs.declared.handles.Channel.{Channel}
 use Rattle.dev_types.specs.declared.refusals.Refused.TheVariants.{InFlight}
 use Rattle.dev_types.specs.declared.answers.ParamInfo.{ParamInfo}
 use Rattle.dev_types.specs.declared.values.Value.{Value}
-use Rattle.dev_types.specs.declared.values.Value.TheVariants as value
 use Rattle.kind_tables.specs.Kinds.{kind_of, subtypes_of}
 use Rattle.kind_tables.specs.Ranges.{type_of_channel}
 use Rattle.kind_tables.specs.Rows.{parameters_of, row_of}
