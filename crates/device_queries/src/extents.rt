@@ -72,7 +72,10 @@ fn corner_of(p: Vec3) -> Corner
 /// The corner of a sphere's box where its coordinates are least.
 fn low_corner(centre: Vec3, radius: i64) -> Corner
     ensures { result ≡ corner_of (record {
-        x = centre.x -ℤ radius; y = centre.y -ℤ radius; z = centre.z -ℤ radius }) }
+      x = centre.x -ℤ radius;
+      y = centre.y -ℤ radius;
+      z = centre.z -ℤ radius;
+    }) }
 {
     Corner {
         x: clamped_difference(centre.x, radius),
@@ -84,7 +87,10 @@ fn low_corner(centre: Vec3, radius: i64) -> Corner
 /// The corner of a sphere's box where its coordinates are greatest.
 fn high_corner(centre: Vec3, radius: i64) -> Corner
     ensures { result ≡ corner_of (record {
-        x = centre.x +ℤ radius; y = centre.y +ℤ radius; z = centre.z +ℤ radius }) }
+      x = centre.x +ℤ radius;
+      y = centre.y +ℤ radius;
+      z = centre.z +ℤ radius;
+    }) }
 {
     Corner {
         x: clamped_sum(centre.x, radius),

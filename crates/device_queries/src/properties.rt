@@ -108,7 +108,9 @@ fn property_by<O: Objects>(
             let visits = walk(alloc, state, h)?;
             Ok(Value::ScalarBox3(bounds(state, &visits)))
         }
-        Kind::FrameDefault if name.as_str() == "renderProgress" => Ok(Value::Scalar(progress(done))),
+        Kind::FrameDefault if name.as_str() == "renderProgress" => Ok(Value::Scalar(progress(
+            done,
+        ))),
         _ => Err(Refused::NoSuchName),
     }
 }

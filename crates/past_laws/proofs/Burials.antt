@@ -8,7 +8,8 @@ use Rattle.std.proofs.lemmas.List.Elements.{All-head, All-tail}
 use Rattle.seq_model.proofs.Growths.{Objects, is_in, lives_at, put_in, why_in}
 use Rattle.seq_model.proofs.Handles.{lives, live_keeps}
 use Rattle.seq_model.proofs.Keys.{RisesWithin, all_from_at, at}
-use Rattle.seq_model.proofs.Ranked.{IsRanked, Supports, supported_lives}
+use Rattle.seq_model.proofs.Ranked.{Supports, supported_lives}
+use Rattle.seq_model.specs.Soundness.{IsRanked}
 use Rattle.seq_model.specs.Life.{grown, has, live, names_of}
 use Rattle.seq_model.specs.State.{Object}
 use Rattle.past_laws.specs.HeldUp.{IsHeldUp}

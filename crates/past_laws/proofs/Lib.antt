@@ -1,4 +1,5 @@
 pub mod Answered
+pub mod Answering
 pub mod Burials
 pub mod FlightFacts
 pub mod Follows

@@ -2,7 +2,7 @@
 ghost use Rattle.std.specs.Prelude.{◌≡◌, ◌≤◌, ◌++◌, IfOk, IfErr, IfSome, IsSome, None, OnErr, OnOk, Some, length, option_copied, true};
 ghost use Rattle.std.specs.Option.{option_map};
 ghost use Rattle.dev_types.specs.Blocks.{FitsBlock};
-ghost use Rattle.plain_objects.specs.Named.{block_of};
+ghost use Rattle.call_answers.specs.Named.{block_of};
 ghost use Rattle.plain_device.specs.Views.{client_of, past_of, last_reply, content_at, reply_in};
 ghost use Rattle.seq_model.specs.Answers.{answer};
 ghost use Rattle.seq_model.specs.Builds.{builds};
@@ -19,7 +19,7 @@ ghost use Rattle.seq_model.specs.declared.calls.Entry.TheVariants.{Called, Finis
 use crate::steps::step;
 use byte_view::Strided;
 use dev_types::{Bytes, Client, Handle, NoMemory};
-use plain_answers::contents::entered;
+use plain_answers::answers::entered;
 use plain_journal::record::Record;
 use plain_objects::objects::Shows;
 use seq_model::{Call, Entry, Journal, Reply};

@@ -10,7 +10,7 @@ ghost use Rattle.seq_model.specs.Told.{told_by};
 ghost use Rattle.seq_model.specs.declared.calls.Entry.TheVariants.{Called};
 
 use dev_types::{Client, Handle, NoMemory};
-use plain_answers::replies::answer;
+use plain_answers::answers::answer;
 use plain_journal::record::Record;
 use seq_model::{Call, Reply};
 use std::alloc::Global;

@@ -1,4 +1,3 @@
 pub mod Counts
-pub mod Named
 pub mod Shown
 pub mod Sweeping

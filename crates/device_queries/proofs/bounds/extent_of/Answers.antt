@@ -13,11 +13,11 @@ pub loop-visit-preserved : goal.loop-visit-preserved
 loop-visit-preserved g c =
     c.with_visit-extent.ensures
     ∙ rw (c.loop-visit.invariant) (
-      sym (fold-append with_primitive nothing
-          (flat_map (primitives_at (g.O.Objects.objects c.args.state.now)) (all_seen (g.O.Objects.objects c.args.state.now) _))
-          (primitives_at (g.O.Objects.objects c.args.state.now) (seen (g.O.Objects.objects c.args.state.now) _)))
-      ∙ ap (fold with_primitive nothing)
-          (sym (rw (← c.visit-item.is) at (flat_map-map_more (seen (g.O.Objects.objects c.args.state.now)) (primitives_at (g.O.Objects.objects c.args.state.now)) c.args.visits.now c.loop-visit.visit-index c.visit-item.result c.loop-visit-test.true)))
+    sym (fold-append with_primitive nothing
+    (flat_map (primitives_at (g.O.Objects.objects c.args.state.now)) (all_seen (g.O.Objects.objects c.args.state.now) _))
+    (primitives_at (g.O.Objects.objects c.args.state.now) (seen (g.O.Objects.objects c.args.state.now) _)))
+    ∙ ap (fold with_primitive nothing)
+    (sym (rw (← c.visit-item.is) at (flat_map-map_more (seen (g.O.Objects.objects c.args.state.now)) (primitives_at (g.O.Objects.objects c.args.state.now)) c.args.visits.now c.loop-visit.visit-index c.visit-item.result c.loop-visit-test.true)))
     )
 
 pub returns : goal.returns
