@@ -1,7 +1,7 @@
 //! What frames show, and the renders that made it.
 ghost use Rattle.std.specs.Prelude.{◌≡◌, ◌==◌, IsSome, option_copied};
-ghost use Rattle.plain_journal.specs.Kept.{Shows, WasRendered, render_with};
-ghost use Rattle.dev_types.specs.Channels.{number_of_channel};
+ghost use Rattle.plain_journal.specs.Kept.{Shows, render_with};
+ghost use Rattle.past_laws.specs.Rendered.{WasRendered};
 ghost use Rattle.plain_objects.specs.Shown.{phase_of};
 ghost use Rattle.seq_model.specs.Histories.{frame_at};
 ghost use Rattle.seq_model.specs.Pictures.{tiles_at};
@@ -9,7 +9,7 @@ ghost use Rattle.seq_model.specs.Refusals.{phase_at};
 
 use crate::record::Record;
 use crate::renders::Render;
-use dev_types::{Channel, Handle};
+use dev_types::Handle;
 use picture_model::tile_count;
 use plain_objects::objects;
 

@@ -163,7 +163,7 @@ pub fn named<O: Objects>(state: &O, h: Handle, text: &str) -> Option<Handle>
 }
 
 /// The elements of the array that was committed under a name.
-pub(crate) fn array<'a, O: Objects>(state: &'a O, h: Handle, text: &str) -> Option<Strided<'a>>
+pub fn array<'a, O: Objects>(state: &'a O, h: Handle, text: &str) -> Option<Strided<'a>>
     requires { IsTrue (is_name text.now) }
     ensures value { result ≡ array_in (O.objects state.now) h text.now }
     ensures size { IsCounted result }
