@@ -1,0 +1,17 @@
+pub mod Births
+pub mod Changes
+pub mod Counted
+pub mod Deaths
+pub mod Gathered
+pub mod HeldUp
+pub mod Holdings
+pub mod Keyed
+pub mod Lefts
+pub mod MoveFacts
+pub mod NamedCount
+pub mod NamedFacts
+pub mod PartFacts
+pub mod References
+pub mod Removed
+pub mod Reslotted
+pub mod Totals
