@@ -1,3 +1,4 @@
+pub mod ArrayBirths
 pub mod Births
 pub mod Changes
 pub mod Counted
@@ -15,3 +16,4 @@ pub mod References
 pub mod Removed
 pub mod Reslotted
 pub mod Totals
+pub mod Unmaps

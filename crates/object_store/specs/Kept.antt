@@ -1,10 +1,12 @@
 -- What contracts see of a store, and what always holds of its parts.
-use Rattle.std.specs.Prelude.{◌≡◌, ℕ, ◌+◌, ◌<◌, ◌≤◌, ◌^◌, ◌&&◌, nat_lt, Bool, true, List, Some, None, IsSome}
+use Rattle.std.specs.Prelude.{◌≡◌, ℕ, ◌+◌, ◌<◌, ◌≤◌, ◌^◌, ◌&&◌, ◌⊎◌, nat_lt, Bool, false, true, List, Some, None, IsSome}
 use Rattle.std.specs.BTreeMap.{is_at}
 use Rattle.std.specs.List.{sum_by}
 use Rattle.std.specs.Map.{remove_entry}
 use Rattle.std.specs.Ordering.{nat_cmp}
 use Rattle.std.specs.Option.{is_some, option_map_or, unwrap_or}
+use Rattle.dev_types.specs.declared.refusals.Refused.{Refused}
+use Rattle.dev_types.specs.declared.refusals.Refused.TheVariants.{NoMemory, NotMapped}
 use Rattle.handle_table.specs.HandleMaps.{HandleMap, RiseWithin}
 use Rattle.ref_counts.specs.CountMaps.{CountMap, counts_at, entry_at, named_at, public_at}
 use Rattle.array_objects.specs.Stores.{Arrays, array_at}
@@ -85,3 +87,7 @@ pub record IsUnheld (s : Stored) (h : ℕ) : Type 0 where
 pub record IsSettled (s : Stored) : Type 0 where
   pub closed : (h : ℕ) (o : Object) → at h s.state.objects ≡ Some o → (k : ℕ) → has k (names_of o) ≡ true → IsSome (at k s.state.objects)
   pub held : (h : ℕ) (o : Object) → at h s.state.objects ≡ Some o → 0 < number_at s.public h + (names_in s.state.objects h + loan_count o + number_at s.holds h)
+
+-- why an unmap was refused: there was no memory, or the loan was not out
+abbrev pub IsUnmapRefusal : Bool → Refused → Type 0
+IsUnmapRefusal out refused = (refused ≡ NoMemory) ⊎ ((refused ≡ NotMapped) × (out ≡ false))

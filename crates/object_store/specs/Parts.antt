@@ -3,7 +3,7 @@ use Rattle.std.specs.Prelude.{ℕ, ◌+◌, ◌-◌, ◌==◌, not, List, [], �
 use Rattle.std.specs.BTreeMap.{is_at}
 use Rattle.std.specs.List.{filter, filter_map, range_with_len}
 use Rattle.std.specs.Map.{lookup}
-use Rattle.std.specs.Option.{option_map, option_map_or}
+use Rattle.std.specs.Option.{option_and_then, option_map, option_map_or}
 use Rattle.std.specs.Ordering.{nat_cmp}
 use Rattle.dev_types.specs.declared.handles.Channel.{Channel}
 use Rattle.dev_types.specs.declared.handles.Origin.{Origin}
@@ -14,7 +14,10 @@ use Rattle.array_objects.specs.declared.arrays.Block.{Block}
 use Rattle.array_objects.specs.declared.arrays.Array.{Array}
 use Rattle.dev_types.specs.declared.values.Value.{Value}
 use Rattle.byte_view.specs.Elements.{Elements, element}
-use Rattle.kind_tables.specs.SceneObjects.{object_in, with_value, without_value}
+use Rattle.kind_tables.specs.declared.kinds.Kind.TheVariants.{Array as ArrayKind}
+use Rattle.seq_model.specs.Life.{objects_of_elements}
+use Rattle.seq_model.specs.Steps.{fresh, holding}
+use Rattle.kind_tables.specs.SceneObjects.{Block as SceneBlock, object_in, with_value, without_value}
 use Rattle.seq_model.specs.State.{ArrayState, Empty, Object, ParameterLoan, Phase}
 
 -- what is kept of an object beside its array: also how many flights hold it
@@ -112,6 +115,10 @@ named_below e i = filter_map (λ k. object_in (element e k)) (range_with_len 0 i
 abbrev pub named_in_block : Option Block → List ℕ
 named_in_block block = option_map_or (λ b. named_below (elements_of b) b.count) block []
 
+-- a block with other bytes
+abbrev pub with_content : List ℕ → Block → Block
+with_content bytes b = record b { bytes = bytes }
+
 -- the bytes of a block, and of an array, and where their memory comes from
 abbrev pub memory_of : Option Block → Option (List ℕ × Origin)
 memory_of None = None
@@ -120,3 +127,15 @@ memory_of (Some b) = Some (b.bytes, b.origin)
 abbrev pub memory_in : Option ArrayState → Option (List ℕ × Origin)
 memory_in None = None
 memory_in (Some a) = Some (a.block.bytes, a.origin)
+
+-- an array as it is made, with this block
+abbrev pub array_of : Block → Object
+array_of b = fresh (ArrayKind b.ty) (Some (array_state (record { block = b; loan = None })))
+
+-- a block of elements that are lent
+abbrev pub block_of : Elements → SceneBlock
+block_of e = record { elem = e.ty; count = e.count; stride = e.stride; bytes = e.bytes }
+
+-- what the elements of an object would name if it had this content
+abbrev pub named_with : List ℕ → Option Object → List ℕ
+named_with bytes o = objects_of_elements (option_map (holding bytes) (option_and_then (λ o. o.array) o))

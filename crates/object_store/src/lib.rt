@@ -4,6 +4,7 @@
 #![tactic(auto)]
 
 pub mod account;
+pub mod contents;
 pub mod reslotting;
 pub mod slots;
 pub mod staging;

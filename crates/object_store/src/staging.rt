@@ -1,6 +1,6 @@
 //! Changes of the parameters of one object.
 ghost use Rattle.std.specs.Prelude.{◌≡◌, [], IfOk, IfSome, IsSome, OnErr, length};
-ghost use Rattle.std.specs.Option.{option_to_list};
+ghost use Rattle.std.specs.Option.{is_some, option_to_list};
 ghost use Rattle.kind_tables.specs.SceneObjects.{object_in, objects_of};
 ghost use Rattle.param_stage.specs.Params.{named};
 ghost use Rattle.handle_table.specs.HandleMaps.{value_at};
@@ -84,4 +84,11 @@ pub fn names_at(slots: &Table<Slot>, h: Handle) -> u64
         Some(slot) => slot.params().named_len(),
         None => 0,
     }
+}
+
+/// Whether an object with this handle is there.
+pub fn is_there(slots: &Table<Slot>, h: Handle) -> bool
+    ensures { result ≡ is_some (value_at slots.now h) }
+{
+    slots.get(h).is_some()
 }

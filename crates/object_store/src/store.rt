@@ -1,22 +1,23 @@
 //! The store.
 ghost use Rattle.std.specs.List.{filter};
-ghost use Rattle.std.specs.Prelude.{◌≡◌, ◌==◌, ◌∷◌, ◌++◌, ℕ, ◌+◌, ◌-◌, ◌^◌, ◌<◌, ◌≤◌, [], IsTrue, IsOk, IsSome, IfNone, IfOk, IfSome, OnOk, OnErr, Some, None, false, length, not, true, option_copied};
+ghost use Rattle.std.specs.Prelude.{◌≡◌, ◌==◌, ◌∷◌, ◌++◌, ℕ, ◌+◌, ◌-◌, ◌^◌, ◌<◌, ◌≤◌, [], IsTrue, IsOk, IsSome, IfErr, IfNone, IfOk, IfSome, OnOk, OnErr, Some, None, false, length, not, true, option_copied};
 ghost use Rattle.std.specs.BTreeMap.{is_at};
 ghost use Rattle.std.specs.Map.{set_value};
 ghost use Rattle.std.specs.Ordering.{nat_cmp};
 ghost use Rattle.std.specs.Option.{MatchOption, option_and_then, option_map, option_map_or};
 ghost use Rattle.kind_tables.specs.SceneObjects.{object_in, value_named, with_value, without_value};
 ghost use Rattle.seq_model.specs.State.{Empty, changed_at, empty, object_at, with_object};
-ghost use Rattle.seq_model.specs.Steps.{change_array, commit, discard, fresh, lend_parameter, lent, map_channel, set_phase, set_staged, unmap_channel};
+ghost use Rattle.seq_model.specs.Steps.{change_array, commit, discard, fresh, holding, lend_parameter, lent, map_channel, set_phase, set_staged, unmap_channel};
 ghost use Rattle.object_store.specs.Phases.{phase_of};
 
+use crate::contents::{elements_len, name_content, unname_content};
 use crate::account::{account, unname_object, unname_times};
 use crate::reslotting::{hold_at, lend_at, map_channel_at, show_at, unhold_at, unmap_channel_at};
 use crate::slots::{ParameterLoan, Shows, Slot};
-use crate::staging::{commit_at, names_at, set_at, unset_all_at, unset_at};
+use crate::staging::{commit_at, is_there, names_at, set_at, unset_all_at, unset_at};
 use crate::stops::Stops;
 use array_objects::{ArrayStore, Block, Lent};
-use dev_types::{Channel, Handle, Name, NoMemory, Refused, Value};
+use dev_types::{Bytes, Channel, Handle, Name, NoMemory, Refused, Value};
 use handle_table::Table;
 use kind_tables::Kind;
 use ref_counts::Counts;
@@ -45,8 +46,11 @@ impl Model for Store {
 }
 
 impl Store {
-    ghost use Rattle.object_store.specs.Kept.{IsSettled, IsUnheld, number_at, without};
-    ghost use Rattle.object_store.specs.Parts.{memory_in, memory_of};
+    ghost use Rattle.object_store.specs.Kept.{IsSettled, IsUnmapRefusal, IsUnheld, number_at, without};
+    ghost use Rattle.array_objects.specs.Stores.{Fits};
+    ghost use Rattle.seq_model.specs.Life.{times};
+    ghost use Rattle.seq_model.specs.Refusals.{is_array_loan_out};
+    ghost use Rattle.object_store.specs.Parts.{array_of, block_of, memory_in, memory_of, named_in_block, named_with};
     ghost use Rattle.object_store.specs.Gathers.{IsLeft, buried};
     ghost use Rattle.seq_model.proofs.Ranked.{IsRanked};
 
@@ -112,6 +116,37 @@ impl Store {
         self.slots.insert(Slot::new(alloc, kind))
     }
 
+    /// Makes an array with this block, for which there is room. Its maker has a public reference to it; each object that its elements
+    /// name is there.
+    ///
+    /// # Errors
+    /// `NoMemory`; the block comes back, and all is as it was.
+    pub fn new_array(&mut self, alloc: Global, block: Block) -> Result<Handle, (NoMemory, Block)>
+        requires room { self.old.ready ≡ true }
+        requires fits { Fits block }
+        requires named { (k : ℕ) → 0 < times k (named_in_block (Some block)) → IsSome (object_at self.old.state k) }
+        ensures handle { IfOk result (λ h. h ≡ self.old.state.next) }
+        ensures store { OnOk result (self.new ≡ record {
+          state = with_object (array_of block) self.old.state;
+          public = self.old.public ++ (self.old.state.next, 1) ∷ [];
+          holds = self.old.holds ++ (self.old.state.next, 0) ∷ [];
+          ready = false;
+          places = self.old.places;
+        }) }
+        ensures returned { IfErr result (λ e. e.1 ≡ block) }
+        ensures err { OnErr result (self.new ≡ self.old) }
+    {
+        let (ty, count) = (block.ty, block.count);
+        if count > MOST_NAMES || self.bound > MOST_NAMES {
+            return Err((NoMemory, block));
+        }
+        let next = self.slots.next();
+        self.arrays.add(alloc, next, block)?;
+        name_content(&mut self.counts, &self.arrays, next);
+        self.bound += count;
+        Ok(self.slots.insert(Slot::new(alloc, Kind::Array(ty))))
+    }
+
     /// Takes away the object with the least handle of those that nothing holds; its block comes back. `None` exactly where each
     /// object is held. This takes no memory.
     pub fn die(&mut self) -> Option<(Handle, Option<Block>)>
@@ -165,6 +200,7 @@ impl Store {
         requires { IsSome (option_and_then (λ o. o.array) (object_at self.old.state h)) }
         ensures ok { OnOk result (self.new ≡ record self.old { state = changed_at h (change_array (lent number)) self.old.state }) }
         ensures loan { IfOk result (λ l. (l.array ≡ h) × (l.number ≡ number)) }
+        ensures content { IfOk result (λ l. IfSome (option_and_then (λ o. o.array) (object_at self.old.state h)) (λ a. block_of l.elements ≡ a.block)) }
         ensures err { OnErr result (self.new ≡ self.old) }
     {
         if self.bound >= MOST_NAMES {
@@ -174,6 +210,39 @@ impl Store {
         self.counts.name(h);
         self.bound += 1;
         Ok(lent)
+    }
+
+    /// Ends a loan of an array: the content is then these bytes, as many as the loan has. Each object that they name is there.
+    ///
+    /// # Errors
+    /// `NotMapped` exactly where no loan of this array, number and length is out, else `NoMemory`; the loan comes back, and all is as
+    /// it was.
+    pub fn unmap_array(&mut self, lent: Lent, content: Bytes) -> Result<(), (Refused, Lent)>
+        requires length { length content ≡ length lent.elements.bytes }
+        requires named { (k : ℕ) → 0 < times k (named_with content (object_at self.old.state lent.array)) → IsSome (object_at self.old.state k) }
+        ensures ok { OnOk result (self.new ≡ record self.old { state = changed_at lent.array (change_array (holding content)) self.old.state }) }
+        ensures out { OnOk result (is_array_loan_out self.old.state lent.array lent.number (length content) ≡ true) }
+        ensures causes { IfErr result (λ e. IsUnmapRefusal (is_array_loan_out self.old.state lent.array lent.number (length content)) e.0) }
+        ensures returned { IfErr result (λ e. e.1 ≡ lent) }
+        ensures err { OnErr result (self.new ≡ self.old) }
+    {
+        let h = lent.array();
+        if !is_there(&self.slots, h) {
+            return Err((Refused::NotMapped, lent));
+        }
+        let count = elements_len(&self.arrays, h);
+        if count > MOST_NAMES || self.bound > MOST_NAMES {
+            return Err((Refused::NoMemory, lent));
+        }
+        let old = match self.arrays.unmap(lent, content) {
+            Ok(old) => old,
+            Err(refused) => return Err(refused),
+        };
+        name_content(&mut self.counts, &self.arrays, h);
+        unname_content(&mut self.counts, &self.arrays, h, &old);
+        self.counts.unname(h);
+        self.bound += count;
+        Ok(())
     }
 
     /// Makes the committed values of an object, which is there, the staged ones.

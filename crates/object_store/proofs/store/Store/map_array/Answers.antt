@@ -5,6 +5,7 @@ use Rattle.seq_model.specs.Steps.{change_array, lent}
 use Rattle.object_store.specs.Kept.{Stored, stored}
 use Rattle.object_store.specs.Moves.{Moves}
 use Rattle.object_store.proofs.Changes.{IsFree, array_is_there, free_by, ok_is_no_err, parts_lent, stored_lent}
+use Rattle.object_store.proofs.Unmaps.{lent_content}
 use Rattle.object_store.proofs.MoveFacts.{moves_named}
 use Rattle.object_store.proofs.store.Store.map_array.Goals as goal
 
@@ -37,3 +38,7 @@ returns-clause-ok c =
     (c.self.invariant.counted.there c.args.h (array_is_there c.args.self.now c.self.inside.slots c.self.inside.arrays c.self.inside.counts c.self.inside.stopped c.args.h c.self.view_is c.requires).1) in
     subst (λ (s : Stored). stored c.self.inside.slots c.map.new.self c.name.new.self c.self.inside.stopped ≡ record s { state = changed_at c.args.h (change_array (lent c.args.number)) s.state }) c.self.view_is
     (stored_lent c.self.inside.slots c.self.inside.arrays c.map.new.self c.self.inside.counts c.name.new.self c.self.inside.bound c.args.h c.args.number c.self.invariant free c.in_ok-lent.ensures.changes moves c.self.inside.stopped)
+
+pub returns-clause-content : goal.returns-clause-content
+returns-clause-content c =
+    lent_content c.args.self.now c.self.inside.slots c.self.inside.arrays c.self.inside.counts c.self.inside.stopped c.args.h c.in_ok-lent.lent.elements c.self.view_is c.in_ok-lent.ensures.content
