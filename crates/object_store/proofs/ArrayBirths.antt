@@ -1,6 +1,6 @@
 -- One array more.
 use Rattle.std.proofs.Common.{ℕ, zero, suc, ◌+◌, ◌≡◌, ◌<◌, ◌≤◌, ◌^◌, ◌∙◌, false, List, [], ◌∷◌, ◌++◌, Option, Some, None, refl, sym, ap, subst, arith}
-use Rattle.std.specs.Option.{IsSome, option_map}
+use Rattle.std.specs.Option.{IfSome, IsSome, option_map}
 use Rattle.kind_tables.specs.declared.kinds.Kind.TheVariants.{Array as ArrayKind}
 use Rattle.handle_table.specs.HandleMaps.{HandleMap}
 use Rattle.ref_counts.specs.CountMaps.{CountMap, counts_at, named_at}
@@ -9,7 +9,7 @@ use Rattle.array_objects.specs.declared.arrays.Array.{Array}
 use Rattle.array_objects.specs.declared.arrays.Block.{Block}
 use Rattle.seq_model.specs.Life.{loan_count, names_of, times}
 use Rattle.seq_model.specs.State.{Object, with_object}
-use Rattle.object_store.specs.Kept.{AreParts, Stops, stored}
+use Rattle.object_store.specs.Kept.{AreParts, IsShort, Stops, stored}
 use Rattle.object_store.specs.Moves.{Moves}
 use Rattle.object_store.specs.Parts.{Part, array_of, at, fresh_part, holds_at, joined, named_in_block, object_of}
 use Rattle.object_store.proofs.Births.{objects_beyond, parts_more, stored_more}
@@ -44,14 +44,14 @@ module _ (slots new : HandleMap Part) (arrays held : Arrays) (counts moved : Cou
       let few : times k (named_in_block (Some block)) ≤ block.count = named_short (elements_of block) k block.count in
       omega (arith, none, moved_, same, few, parts.bounded k)
 
-  pub parts_of_array : ((k : ℕ) → 0 < times k (named_in_block (Some block)) → IsSome (at k (joined arrays slots.entries))) → bound + block.count ≤ 2 ^ 62 →
+  pub parts_of_array : ((k : ℕ) → 0 < times k (named_in_block (Some block)) → IsSome (at k (joined arrays slots.entries))) → bound + block.count ≤ 2 ^ 62 → block.count ≤ 2 ^ 28 →
       AreParts new held moved (bound + block.count)
-  parts_of_array named small =
+  parts_of_array named small short =
       parts_more slots new arrays held counts moved bound (bound + block.count) (fresh_part (ArrayKind block.ty)) parts entries next changes.others refl
       (ap (λ x. loan_count (object_of (fresh_part (ArrayKind block.ty)) x)) changes.changed) born (subst (λ names. Moves counts moved names []) (sym names) moves)
       (ap (times (slots.next + 1)) names ∙ ap (λ b. times (slots.next + 1) (named_in_block b)) block_there
       ∙ not_named (slots.next + 1) (named_in_block (Some block)) (joined arrays slots.entries) (objects_beyond slots arrays (slots.next + 1) parts.rising (omega arith)) named)
-      bounded_more small
+      bounded_more small (subst (λ x. IfSome x IsShort) (sym changes.changed) short)
 
   pub stored_array : (stopped : Stops) → stored new held moved stopped ≡ record {
     state = with_object (array_of block) (stored slots arrays counts stopped).state;

@@ -2,7 +2,7 @@
 use Rattle.std.proofs.Common.{ℕ, ◌+◌, ◌≡◌, ◌<◌, ◌≤◌, ◌^◌, ◌∙◌, ◌⊎◌, inl, inr, nat_lt, Bool, true, false, List, [], ◌∷◌, ◌++◌, Option, Some, None, refl, sym, ap, subst, arith}
 use Rattle.std.specs.Prelude.{◌&&◌}
 use Rattle.std.specs.Map.{keys_of}
-use Rattle.std.specs.Option.{IsSome, is_some, option_map, option_map_or, unwrap_or}
+use Rattle.std.specs.Option.{IfSome, IsSome, is_some, option_map, option_map_or, unwrap_or}
 use Rattle.std.proofs.lemmas.Bool.{and_from, and_parts, and_right, cases_eq, lt-ltb, ltb-true}
 use Rattle.kind_tables.specs.declared.kinds.Kind.{Kind}
 use Rattle.handle_table.specs.HandleMaps.{HandleMap, RiseWithin}
@@ -13,7 +13,7 @@ use Rattle.seq_model.proofs.Keys.{RisesWithin, nothing_outside, rises_with_next}
 use Rattle.seq_model.specs.Life.{loan_count, names_of, times}
 use Rattle.seq_model.specs.State.{with_object}
 use Rattle.seq_model.specs.Steps.{fresh}
-use Rattle.object_store.specs.Kept.{AreCounted, AreParts, Stops, stored}
+use Rattle.object_store.specs.Kept.{AreCounted, AreParts, IsShort, Stops, stored}
 use Rattle.object_store.specs.Moves.{Moves}
 use Rattle.object_store.specs.Parts.{Part, at, fresh_part, holds_at, joined, keyed, object_of}
 use Rattle.object_store.proofs.Counted.{counted_born, counted_more, none_behind}
@@ -40,6 +40,7 @@ parts_with_room slots new arrays counts moved bound parts entries next counted b
   rising = subst (λ es. RiseWithin 1 new.next es) (sym entries) (subst (λ n. RiseWithin 1 n slots.entries) (sym next) parts.rising);
   none_beyond = λ h beyond. parts.none_beyond h (subst (λ n. n ≤ h) next beyond);
   counted = subst (λ es. AreCounted (joined arrays es) (holds_at es) new.next moved) (sym entries) (subst (λ n. AreCounted (joined arrays slots.entries) (holds_at slots.entries) n moved) (sym next) counted);
+  short = parts.short;
   small = parts.small;
   few = subst (λ es. (k : ℕ) → holds_at es k ≤ 2 ^ 40) (sym entries) parts.few;
   bounded = subst (λ es. (k : ℕ) → named_at moved k ≤ bound + holds_at es k) (sym entries) bounded;
@@ -90,8 +91,8 @@ pub parts_more : (slots new : HandleMap Part) (arrays held : Arrays) (counts mov
     AreParts slots arrays counts bound → new.entries ≡ slots.entries ++ (slots.next, part) ∷ [] → new.next ≡ slots.next + 1 →
     ((k : ℕ) → (k ≡ slots.next → ⊥) → array_at held k ≡ array_at arrays k) → part.holds ≡ 0 → loan_count (object_of part (array_at held slots.next)) ≡ 0 →
     IsSome (counts_at counts slots.next) → Moves counts moved (names_of (object_of part (array_at held slots.next))) [] →
-    times (slots.next + 1) (names_of (object_of part (array_at held slots.next))) ≡ 0 → ((k : ℕ) → named_at moved k ≤ most + holds_at slots.entries k) → most ≤ 2 ^ 62 → AreParts new held moved most
-parts_more slots new arrays held counts moved bound most part parts entries next others unheld unlent born moves unnamed bounded small = record {
+    times (slots.next + 1) (names_of (object_of part (array_at held slots.next))) ≡ 0 → ((k : ℕ) → named_at moved k ≤ most + holds_at slots.entries k) → most ≤ 2 ^ 62 → IfSome (array_at held slots.next) IsShort → AreParts new held moved most
+parts_more slots new arrays held counts moved bound most part parts entries next others unheld unlent born moves unnamed bounded small short_here = record {
   rising = subst (λ n. RiseWithin 1 n new.entries) (sym next) (subst (λ es. RiseWithin 1 (slots.next + 1) es) (sym entries)
       (rise 1 (slots.next + 1) (slots.entries ++ (slots.next, part) ∷ [])
       (subst (λ ks. RisesWithin 1 (slots.next + 1) ks) (sym (keys_more slots.entries slots.next part)) (rises_with_next 1 slots.next (keys_of slots.entries) (rises 1 slots.next slots.entries parts.rising)))));
@@ -101,11 +102,16 @@ parts_more slots new arrays held counts moved bound most part parts entries next
       (subst (λ objects. AreCounted objects (holds_at (slots.entries ++ (slots.next, part) ∷ [])) (slots.next + 1) moved) (sym objects)
       (counted_more (joined arrays slots.entries) (holds_at slots.entries) (holds_at (slots.entries ++ (slots.next, part) ∷ [])) slots.next counts moved (object_of part (array_at held slots.next))
       parts.counted (λ k beyond. objects_beyond slots arrays k parts.rising beyond) born moves unlent (λ k. same_holds k (cases_eq k slots.next)) unnamed)));
+  short = λ k. short_more k (cases_eq k slots.next);
   small = small;
   few = λ k. omega (arith, parts.few k, holds_more k);
   bounded = λ k. omega (arith, bounded k, holds_more k);
 }
   where
+    short_more : (k : ℕ) → (k ≡ slots.next) ⊎ (k ≡ slots.next → ⊥) → IfSome (array_at held k) IsShort
+    short_more k (inl same) = subst (λ k. IfSome (array_at held k) IsShort) (sym same) short_here
+    short_more k (inr apart) = subst (λ x. IfSome x IsShort) (sym (others k apart)) (parts.short k)
+
     objects : joined held (slots.entries ++ (slots.next, part) ∷ []) ≡ joined arrays slots.entries ++ (slots.next, object_of part (array_at held slots.next)) ∷ []
     objects =
         keyed_append (λ h part. object_of part (array_at held h)) slots.entries ((slots.next, part) ∷ [])
@@ -188,7 +194,7 @@ parts_fresh slots new arrays counts bound kind parts entries next born =
     let none : array_at arrays slots.next ≡ None = parts.none_beyond slots.next (omega arith) in
     let names : names_of (object_of (fresh_part kind) (array_at arrays slots.next)) ≡ [] = fresh_names_nothing kind (array_at arrays slots.next) none in
     parts_more slots new arrays arrays counts counts bound bound (fresh_part kind) parts entries next (λ k apart. refl) refl (fresh_is_not_lent kind (array_at arrays slots.next) none) born
-    (subst (λ added. Moves counts counts added []) (sym names) (moves_none counts)) (ap (times (slots.next + 1)) names) parts.bounded parts.small
+    (subst (λ added. Moves counts counts added []) (sym names) (moves_none counts)) (ap (times (slots.next + 1)) names) parts.bounded parts.small (parts.short slots.next)
 
 pub stored_fresh : (slots new : HandleMap Part) (arrays : Arrays) (counts : CountMap) (bound : ℕ) (stopped : Stops) (kind : Kind) → AreParts slots arrays counts bound →
     new.entries ≡ slots.entries ++ (slots.next, fresh_part kind) ∷ [] → new.next ≡ slots.next + 1 → IsSome (counts_at counts slots.next) →

@@ -3,7 +3,7 @@ use Rattle.std.proofs.Common.{Ok, Err, ℕ, ◌+◌, ◌≡◌, ◌<◌, ◌≤�
 use Rattle.std.specs.Prelude.{cond, ◌&&◌}
 use Rattle.std.specs.BTreeMap.{is_at}
 use Rattle.std.specs.Map.{keys_of, set_value}
-use Rattle.std.specs.Option.{IsSome, is_some, option_and_then, option_map, option_map_or, unwrap_or}
+use Rattle.std.specs.Option.{IfSome, IsSome, is_some, option_and_then, option_map, option_map_or, unwrap_or}
 use Rattle.std.specs.Ordering.{nat_cmp}
 use Rattle.std.proofs.lemmas.Bool.{cases_eq}
 use Rattle.std.proofs.lemmas.Map.{keys-set_value}
@@ -16,7 +16,7 @@ use Rattle.seq_model.proofs.Keys.{RisesWithin, at_changed, at_unchanged, at_with
 use Rattle.seq_model.specs.Life.{loan_count, names_of, times}
 use Rattle.seq_model.specs.State.{Object, changed_at, object_at}
 use Rattle.seq_model.specs.Steps.{change_array, lent}
-use Rattle.object_store.specs.Kept.{AreCounted, AreParts, Stops, Stored, stored}
+use Rattle.object_store.specs.Kept.{IsShort, AreCounted, AreParts, Stops, Stored, stored}
 use Rattle.object_store.specs.Moves.{Moves}
 use Rattle.object_store.specs.Parts.{Part, array_state, at, holds_at, joined, keyed, object_of}
 use Rattle.object_store.proofs.Counted.{counted_change}
@@ -60,14 +60,15 @@ module _ (slots new : HandleMap Part) (arrays held : Arrays) (counts moved : Cou
           ∙ sym (at_unchanged h k (joined arrays slots.entries) (object_of now (array_at held h)) apart ∙ at_keyed (λ h part. object_of part (array_at arrays h)) k slots.entries)
 
   pub parts_changed : (most : ℕ) → ((k : ℕ) → weigh k h (object_of now (array_at held h)) + times k gone ≡ weigh k h (object_of part (array_at arrays h)) + times k added) →
-      times slots.next added ≡ 0 → bound + length added ≤ most → most ≤ 2 ^ 62 → AreParts new held moved most
-  parts_changed most weighs unnamed fits small = subst (λ new. AreParts new held moved most) (sym is) (record {
+      times slots.next added ≡ 0 → bound + length added ≤ most → most ≤ 2 ^ 62 → IfSome (array_at held h) IsShort → AreParts new held moved most
+  parts_changed most weighs unnamed fits small short_here = subst (λ new. AreParts new held moved most) (sym is) (record {
     rising = rise 1 slots.next (set_value (is_at (nat_cmp h)) slots.entries now) changed_up;
     none_beyond = λ k beyond. others k (λ same. omega (arith, same, below.1, beyond)) ∙ parts.none_beyond k beyond;
     counted = subst (λ objects. AreCounted objects (holds_at (set_value (is_at (nat_cmp h)) slots.entries now)) slots.next moved) (sym objects_changed)
         (subst (λ holds. AreCounted (set_value (is_at (nat_cmp h)) (joined arrays slots.entries) (object_of now (array_at held h))) holds slots.next moved) (λ i k. all_holds k (cases_eq k h) i)
         (counted_change (joined arrays slots.entries) (holds_at slots.entries) slots.next counts moved h (object_of part (array_at arrays h)) (object_of now (array_at held h)) added gone
         parts.counted object_there moves weighs unnamed));
+    short = λ k. short_still k (cases_eq k h);
     small = small;
     few = λ k. omega (arith, parts.few k, all_holds k (cases_eq k h));
     bounded = λ k.
@@ -75,6 +76,10 @@ module _ (slots new : HandleMap Part) (arrays held : Arrays) (counts moved : Cou
         omega (arith, named_, parts.bounded k, times_least k added, fits, all_holds k (cases_eq k h));
   })
     where
+      short_still : (k : ℕ) → (k ≡ h) ⊎ (k ≡ h → ⊥) → IfSome (array_at held k) IsShort
+      short_still k (inl same) = subst (λ k. IfSome (array_at held k) IsShort) (sym same) short_here
+      short_still k (inr apart) = subst (λ x. IfSome x IsShort) (sym (others k apart)) (parts.short k)
+
       all_holds : (k : ℕ) → (k ≡ h) ⊎ (k ≡ h → ⊥) → holds_at slots.entries k ≡ holds_at (set_value (is_at (nat_cmp h)) slots.entries now) k
       all_holds k (inl same) =
           ap (holds_at slots.entries) same ∙ ap (λ x. option_map_or (λ (p : Part). p.holds) x 0) there ∙ sym same_holds
@@ -212,6 +217,7 @@ module _ (slots : HandleMap Part) (arrays held : Arrays) (counts moved : CountMa
   parts_lent small =
       parts_changed slots slots arrays held counts moved bound parts h is.part is.part is.part_there same_slots changes.others refl (h ∷ []) [] moves (bound + 1) weighs
       (never h slots.next (λ same. omega (arith, same, (at_within h 1 slots.next slots.entries is.part (rises 1 slots.next slots.entries parts.rising) is.part_there).1))) (omega arith) small
+      (subst (λ x. IfSome x IsShort) (sym array_now) (subst (λ x. IfSome x IsShort) is.array_there (parts.short h)))
 
   pub stored_lent : (stopped : Stops) → stored slots held moved stopped ≡ record (stored slots arrays counts stopped) { state = changed_at h (change_array (lent number)) (stored slots arrays counts stopped).state }
   stored_lent stopped =

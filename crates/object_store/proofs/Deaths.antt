@@ -3,7 +3,7 @@ use Rattle.std.proofs.Common.{ℕ, zero, suc, ◌+◌, ◌≡◌, ◌<◌, ◌�
 use Rattle.std.specs.Prelude.{◌&&◌}
 use Rattle.std.specs.BTreeMap.{is_at}
 use Rattle.std.specs.Map.{keys_of, remove_entry}
-use Rattle.std.specs.Option.{IfNone, IsSome, is_some, option_and_then, option_map, option_map_or, unwrap_or}
+use Rattle.std.specs.Option.{IfNone, IfSome, IsSome, is_some, option_and_then, option_map, option_map_or, unwrap_or}
 use Rattle.std.specs.Ordering.{nat_cmp}
 use Rattle.std.proofs.lemmas.Bool.{cases_eq}
 use Rattle.handle_table.specs.HandleMaps.{HandleMap, RiseWithin, value_at}
@@ -16,7 +16,7 @@ use Rattle.array_objects.specs.Stores.{Arrays, array_at, ChangesAt as ArraysChan
 use Rattle.seq_model.proofs.Keys.{RisesWithin, at_within}
 use Rattle.seq_model.specs.Life.{has, loan_count, names_of, times}
 use Rattle.seq_model.specs.State.{Object, object_at}
-use Rattle.object_store.specs.Kept.{AreCounted, AreParts, IsSettled, IsUnheld, Stops, Stored, loans_at, names_in, number_at, stored, without}
+use Rattle.object_store.specs.Kept.{AreCounted, AreParts, IsSettled, IsShort, IsUnheld, Stops, Stored, loans_at, names_in, number_at, stored, without}
 use Rattle.object_store.specs.Moves.{Moves}
 use Rattle.object_store.specs.Parts.{Part, array_state, at, holds_at, joined, keyed, memory_in, memory_of, named_in_block, object_of}
 use Rattle.object_store.proofs.Counted.{is_some_by, none_by, not_some}
@@ -120,6 +120,10 @@ module _ (slots : HandleMap Part) (arrays : Arrays) (counts : CountMap) (bound :
         let kept : named_at mid k ≡ named_at counts k = ap (λ x. unwrap_or (option_map (λ (c : ℕ × ℕ). c.1) (unwrap_or x None)) 0) (changes.others k apart) in
         omega (arith, none, moved, kept, holds_kept k apart, parts.bounded k)
 
+    short_left : (k : ℕ) → (k ≡ h) ⊎ (k ≡ h → ⊥) → IfSome (array_at others k) IsShort
+    short_left k (inl same) = subst (λ k. IfSome (array_at others k) IsShort) (sym same) (subst (λ x. IfSome x IsShort) (sym arrays_change.changed) tt)
+    short_left k (inr apart) = subst (λ x. IfSome x IsShort) (sym (arrays_change.others k apart)) (parts.short k)
+
     pub parts_less : AreParts left others new bound
     parts_less = record {
       rising = subst (λ n. RiseWithin 1 n left.entries) (sym next) (subst (λ es. RiseWithin 1 slots.next es) (sym entries) (rise 1 slots.next (remove_entry (is_at (nat_cmp h)) slots.entries) left_up));
@@ -131,6 +135,7 @@ module _ (slots : HandleMap Part) (arrays : Arrays) (counts : CountMap) (bound :
           parts.counted objects_up object_there dead changes new moves
           (λ k apart. ap (λ x. option_map_or (λ (p : Part). p.holds) x 0) (at_removed h k slots.entries apart))
           (ap (λ x. option_map_or (λ (p : Part). p.holds) x 0) (gone h 1 slots.next slots.entries up)))));
+      short = λ k. short_left k (cases_eq k h);
       small = parts.small;
       few = λ k. few_left k (cases_eq k h);
       bounded = λ k. bounded_left k (cases_eq k h);

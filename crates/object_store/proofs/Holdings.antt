@@ -112,6 +112,7 @@ module _ (slots new : HandleMap Part) (arrays : Arrays) (counts moved : CountMap
     rising = rise 1 slots.next (set_value (is_at (nat_cmp h)) slots.entries (f r.part)) changed_up;
     none_beyond = parts.none_beyond;
     counted = subst (λ objects. AreCounted objects (holds_at (set_value (is_at (nat_cmp h)) slots.entries (f r.part))) slots.next moved) (sym objects_same) counted_still;
+    short = parts.short;
     small = parts.small;
     few = λ k. few_still few k (cases_eq k h);
     bounded = λ k.

@@ -12,6 +12,7 @@ pub mod MoveFacts
 pub mod NamedCount
 pub mod NamedFacts
 pub mod PartFacts
+pub mod Readers
 pub mod References
 pub mod Removed
 pub mod Reslotted

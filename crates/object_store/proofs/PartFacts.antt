@@ -113,6 +113,7 @@ module _ (slots : HandleMap Part) (arrays : Arrays) (counts : CountMap) (bound :
             (subst (λ holds. AreCounted (set_value (is_at (nat_cmp h)) (joined arrays slots.entries) (object_of (record part { params = change part.params }) (array_at arrays h))) holds slots.next moved) (λ i k. same_holds k i)
             (counted_change (joined arrays slots.entries) (holds_at slots.entries) slots.next counts moved h (object_of part (array_at arrays h)) (object_of (record part { params = change part.params }) (array_at arrays h))
             added gone parts.counted object_there moves weighs (next_is_not_named added all)));
+        short = parts.short;
         small = small;
         few = λ k. omega (arith, parts.few k, same_holds k);
         bounded = λ k.

@@ -80,6 +80,7 @@ module _ (slots : HandleMap Part) (arrays : Arrays) (counts new : CountMap) (bou
           let apart : k ≡ h → ⊥ = λ same. omega (arith, same, beyond, below.1) in
           changes.others k apart ∙ parts.counted.fresh k beyond (sym (kept k apart) ∙ none);
     };
+    short = parts.short;
     small = parts.small;
     few = parts.few;
     bounded = λ k. omega (arith, named_kept k (cases_eq k h), parts.bounded k);

@@ -108,7 +108,7 @@ module _ (slots new : HandleMap Part) (arrays : Arrays) (counts moved : CountMap
         ((k : ℕ) → (k ≡ h → ⊥) → times k gone ≡ times k added) → times slots.next added ≡ 0 → bound + length added ≤ most → most ≤ 2 ^ 62 → AreParts new arrays moved most
     parts_reslotted most names here others unnamed fits small =
         parts_changed slots new arrays arrays counts moved bound parts h r.part (f r.part) r.there r.changed (λ k apart. refl) holds added gone moves most
-        (λ k. weighs_by k h (object_of r.part (array_at arrays h)) (object_of (f r.part) (array_at arrays h)) added gone names here others) unnamed fits small
+        (λ k. weighs_by k h (object_of r.part (array_at arrays h)) (object_of (f r.part) (array_at arrays h)) added gone names here others) unnamed fits small (parts.short h)
 
 -- it has as many loans, one more, or so many fewer
 module _ (slots new : HandleMap Part) (arrays : Arrays) (counts moved : CountMap) (bound : ℕ) (parts : AreParts slots arrays counts bound) (h : ℕ) (f : Part → Part) (r : Reslots slots new h f)

@@ -21,7 +21,7 @@ use Rattle.seq_model.specs.Life.{loan_count, names_of, objects_of_elements, time
 use Rattle.seq_model.specs.Refusals.{is_array_loan_out, is_array_out}
 use Rattle.seq_model.specs.State.{ArrayState, Object, changed_at, object_at}
 use Rattle.seq_model.specs.Steps.{change_array, holding}
-use Rattle.object_store.specs.Kept.{AreParts, Stops, Stored, loans_at, names_in, stored}
+use Rattle.object_store.specs.Kept.{AreParts, IsShort, Stops, Stored, loans_at, names_in, stored}
 use Rattle.object_store.specs.Moves.{Moves}
 use Rattle.object_store.specs.Parts.{Part, array_state, at, block_of, holds_at, joined, named_in_block, named_with, object_of, with_content}
 use Rattle.object_store.proofs.ArrayBirths.{not_named}
@@ -241,6 +241,7 @@ module _ (slots : HandleMap Part) (arrays held : Arrays) (counts : CountMap) (bo
             parts_changed slots slots arrays held counts last bound parts h is.part is.part is.part_there same_slots changes.others refl (named_in_block (block_at held h))
             (named_in_block (Some is.array.block) ++ h ∷ []) moves (bound + count) weighs
             (not_named slots.next (named_in_block (block_at held h)) (joined arrays slots.entries) (objects_beyond slots arrays slots.next parts.rising (omega arith)) all) fits small
+            (subst (λ x. IfSome x IsShort) (sym array_now) (subst (λ x. IfSome x IsShort) is.array_there (parts.short h)))
 
         pub stored_unmapped : (stopped : Stops) → stored slots held last stopped
             ≡ record (stored slots arrays counts stopped) { state = changed_at h (change_array (holding content)) (stored slots arrays counts stopped).state }

@@ -1,5 +1,5 @@
 -- What contracts see of a store, and what always holds of its parts.
-use Rattle.std.specs.Prelude.{◌≡◌, ℕ, ◌+◌, ◌<◌, ◌≤◌, ◌^◌, ◌&&◌, ◌⊎◌, nat_lt, Bool, false, true, List, Some, None, IsSome}
+use Rattle.std.specs.Prelude.{◌≡◌, ℕ, ◌+◌, ◌<◌, ◌≤◌, ◌^◌, ◌&&◌, ◌⊎◌, nat_lt, Bool, false, true, List, Some, None, IfSome, IsSome}
 use Rattle.std.specs.BTreeMap.{is_at}
 use Rattle.std.specs.List.{sum_by}
 use Rattle.std.specs.Map.{remove_entry}
@@ -10,6 +10,7 @@ use Rattle.dev_types.specs.declared.refusals.Refused.TheVariants.{NoMemory, NotM
 use Rattle.handle_table.specs.HandleMaps.{HandleMap, RiseWithin}
 use Rattle.ref_counts.specs.CountMaps.{CountMap, counts_at, entry_at, named_at, public_at}
 use Rattle.array_objects.specs.Stores.{Arrays, array_at}
+use Rattle.array_objects.specs.declared.arrays.Array.{Array}
 use Rattle.seq_model.specs.Life.{has, loan_count, names_of, times}
 use Rattle.seq_model.specs.State.{Object, State}
 use Rattle.object_store.specs.Parts.{Part, at, holds_at, joined, keyed}
@@ -57,12 +58,17 @@ pub record AreCounted (objects : List (ℕ × Object)) (holds : ℕ → ℕ) (ne
   pub free : named_at counts next ≡ 0
   pub fresh : (h : ℕ) → next ≤ h → counts_at counts h ≡ None → entry_at counts h ≡ None
 
+-- an array has at most 2^28 elements
+abbrev pub IsShort : Array → Type 0
+IsShort a = a.block.count ≤ 2 ^ 28
+
 -- what always holds of the parts of a store: no handle is named more often than a bound says, but for the flights that hold it, which are
 -- few
 pub record AreParts (slots : HandleMap Part) (arrays : Arrays) (counts : CountMap) (bound : ℕ) : Type 0 where
   pub rising : RiseWithin 1 slots.next slots.entries
   pub none_beyond : (h : ℕ) → slots.next ≤ h → array_at arrays h ≡ None
   pub counted : AreCounted (joined arrays slots.entries) (holds_at slots.entries) slots.next counts
+  pub short : (h : ℕ) → IfSome (array_at arrays h) IsShort
   pub small : bound ≤ 2 ^ 62
   pub few : (h : ℕ) → holds_at slots.entries h ≤ 2 ^ 40
   pub bounded : (h : ℕ) → named_at counts h ≤ bound + holds_at slots.entries h

@@ -1,5 +1,5 @@
 //! The counts of objects follow the contents of arrays.
-ghost use Rattle.std.specs.Prelude.{◌≡◌, ℕ, ◌+◌, ◌<◌, ◌≤◌, ◌^◌, [], IfSome, IsSome, length, option_map};
+ghost use Rattle.std.specs.Prelude.{◌≡◌, ℕ, ◌+◌, ◌<◌, ◌≤◌, ◌^◌, [], IfSome, IsSome, length, option_copied, option_map};
 ghost use Rattle.dev_types.specs.Blocks.{FitsBlock};
 ghost use Rattle.array_objects.specs.Stores.{Fits, block_at};
 ghost use Rattle.ref_counts.specs.CountMaps.{counts_at, named_at};
@@ -22,6 +22,13 @@ pub fn elements_len(arrays: &ArrayStore, h: Handle) -> u64
         Some(block) => block.count,
         None => 0,
     }
+}
+
+/// The bytes of an array; `None` exactly where there is no array.
+pub fn bytes_at(arrays: &ArrayStore, h: Handle) -> Option<&Bytes>
+    ensures { option_copied result ≡ option_map (λ b. b.bytes) (block_at arrays.now h) }
+{
+    Some(&arrays.block(h)?.bytes)
 }
 
 /// Each object that the elements of an array name is named once more for each of them.

@@ -6,6 +6,7 @@
 pub mod account;
 pub mod contents;
 pub mod reslotting;
+pub mod scenes;
 pub mod slots;
 pub mod staging;
 pub mod stops;

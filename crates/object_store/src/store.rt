@@ -6,17 +6,19 @@ ghost use Rattle.std.specs.Map.{set_value};
 ghost use Rattle.std.specs.Ordering.{nat_cmp};
 ghost use Rattle.std.specs.Option.{MatchOption, option_and_then, option_map, option_map_or};
 ghost use Rattle.kind_tables.specs.SceneObjects.{object_in, value_named, with_value, without_value};
-ghost use Rattle.seq_model.specs.State.{Empty, changed_at, empty, object_at, with_object};
+ghost use Rattle.seq_model.specs.State.{Empty, array_loan, changed_at, empty, object_at, with_object};
 ghost use Rattle.seq_model.specs.Steps.{change_array, commit, discard, fresh, holding, lend_parameter, lent, map_channel, set_phase, set_staged, unmap_channel};
 ghost use Rattle.object_store.specs.Phases.{phase_of};
+ghost use Rattle.scene_read.specs.Reading.{lent as lent_block};
 
-use crate::contents::{elements_len, name_content, unname_content};
 use crate::account::{account, unname_object, unname_times};
+use crate::contents::{bytes_at, elements_len, name_content, unname_content};
 use crate::reslotting::{hold_at, lend_at, map_channel_at, show_at, unhold_at, unmap_channel_at};
 use crate::slots::{ParameterLoan, Shows, Slot};
 use crate::staging::{commit_at, is_there, names_at, set_at, unset_all_at, unset_at};
 use crate::stops::Stops;
 use array_objects::{ArrayStore, Block, Lent};
+use byte_view::Strided;
 use dev_types::{Bytes, Channel, Handle, Name, NoMemory, Refused, Value};
 use handle_table::Table;
 use kind_tables::Kind;
@@ -116,7 +118,7 @@ impl Store {
         self.slots.insert(Slot::new(alloc, kind))
     }
 
-    /// Makes an array with this block, for which there is room. Its maker has a public reference to it; each object that its elements
+    /// Makes an array with this block of at most 2^28 elements, for which there is room. Its maker has a public reference to it; each object that its elements
     /// name is there.
     ///
     /// # Errors
@@ -124,6 +126,7 @@ impl Store {
     pub fn new_array(&mut self, alloc: Global, block: Block) -> Result<Handle, (NoMemory, Block)>
         requires room { self.old.ready ≡ true }
         requires fits { Fits block }
+        requires short { block.count ≤ 2 ^ 28 }
         requires named { (k : ℕ) → 0 < times k (named_in_block (Some block)) → IsSome (object_at self.old.state k) }
         ensures handle { IfOk result (λ h. h ≡ self.old.state.next) }
         ensures store { OnOk result (self.new ≡ record {
@@ -419,6 +422,37 @@ impl Store {
         ensures { self.new ≡ record self.old { state = record self.old.state { stopped = filter (λ u. not (u == ticket)) self.old.state.stopped } } }
     {
         self.stopped.remove(ticket);
+    }
+
+    /// The elements of an array, at most 2^28; `None` exactly where the object is none.
+    pub fn content(&self, h: Handle) -> Option<Strided<'_>>
+        ensures value { result ≡ option_and_then (λ o. option_map (λ a. lent_block a.block) o.array) (object_at self.now.state h) }
+        ensures short { IfSome result (λ e. e.count ≤ 2 ^ 28) }
+    {
+        if !is_there(&self.slots, h) {
+            return None;
+        }
+        self.arrays.view(h)
+    }
+
+    /// The bytes of an array; `None` exactly where the object is none.
+    pub fn bytes(&self, h: Handle) -> Option<&Bytes>
+        ensures { option_copied result ≡ option_and_then (λ o. option_map (λ a. a.block.bytes) o.array) (object_at self.now.state h) }
+    {
+        if !is_there(&self.slots, h) {
+            return None;
+        }
+        bytes_at(&self.arrays, h)
+    }
+
+    /// The number of the loan of an array that is out; `None` exactly where the object is no array that is mapped.
+    pub fn array_loan(&self, h: Handle) -> Option<u64>
+        ensures { result ≡ option_and_then array_loan (object_at self.now.state h) }
+    {
+        if !is_there(&self.slots, h) {
+            return None;
+        }
+        self.arrays.loan(h)
     }
 
     /// What a frame shows; nothing where there is no such object.

@@ -30,7 +30,7 @@ invariant_of-self-2 c =
     (subst (λ h. ArraysChange c.self.inside.arrays c.add.new.self h (Some (record { block = c.args.block; loan = None }))) is c.in_ok-add.ensures.changes) ready.1
     (subst (λ h. Moves c.self.inside.counts c.name_content.new.counts (named_in_block (block_at c.add.new.self h)) []) is c.name_content.ensures)
     (λ k some. subst (λ (s : Stored). IsSome (object_at s.state k)) (sym c.self.view_is) (c.requires.named k some))
-    (omega (arith, c.if-count-gt-MOST_NAMES.false, c.if-self-gt-MOST_NAMES.false))
+    (omega (arith, c.if-count-gt-MOST_NAMES.false, c.if-self-gt-MOST_NAMES.false)) c.requires.short
 
 pub returns-clause-store : goal.returns-clause-store
 returns-clause-store c =

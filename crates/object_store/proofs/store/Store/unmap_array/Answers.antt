@@ -21,8 +21,11 @@ returns-then-not-is_there-clause-causes c =
 
 pub returns-in-Err-clause-causes : goal.returns-in-Err-clause-causes
 returns-in-Err-clause-causes c =
-    inr (c.in-Err.ensures.cause, not_out_in c.args.self.now c.self.inside.slots c.self.inside.arrays c.self.inside.counts c.self.inside.stopped c.args.lent.array c.args.lent.number (length c.args.content) c.self.view_is
-    (λ out. let wrong : false ≡ true = c.in-Err.ensures.out.1 (subst (λ n. IsOut (array_at c.self.inside.arrays c.args.lent.array) c.args.lent.number n) c.requires.length out) in cc))
+    inr (
+      c.in-Err.ensures.cause,
+      not_out_in c.args.self.now c.self.inside.slots c.self.inside.arrays c.self.inside.counts c.self.inside.stopped c.args.lent.array c.args.lent.number (length c.args.content) c.self.view_is
+          (λ out. let wrong : false ≡ true = c.in-Err.ensures.out.1 (subst (λ n. IsOut (array_at c.self.inside.arrays c.args.lent.array) c.args.lent.number n) c.requires.length out) in cc),
+    )
 
 pub name_content-requires-clause-there : goal.name_content-requires-clause-there
 name_content-requires-clause-there c =
