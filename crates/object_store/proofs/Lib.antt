@@ -16,5 +16,6 @@ pub mod Readers
 pub mod References
 pub mod Removed
 pub mod Reslotted
+pub mod StagedArrays
 pub mod Totals
 pub mod Unmaps

@@ -17,7 +17,7 @@ use Rattle.dev_types.specs.declared.handles.Channel.{Channel}
 use Rattle.std.proofs.lemmas.List.{length_push}
 use Rattle.object_store.specs.Kept.{AreParts, Stops, loans_at, names_in, stored}
 use Rattle.object_store.specs.Moves.{Moves, Reslots}
-use Rattle.object_store.specs.Parts.{Part, array_state, at, holds_at, joined, lend_in, map_in, object_of, unmap_in}
+use Rattle.object_store.specs.Parts.{Part, array_state, at, end_in, holds_at, joined, lend_in, map_in, object_of, unmap_in}
 use Rattle.object_store.proofs.Changes.{parts_changed, stored_changed}
 use Rattle.object_store.proofs.Keyed.{at_keyed, rises}
 use Rattle.object_store.proofs.MoveFacts.{moves_both, moves_unnamed, never, once}
@@ -153,4 +153,11 @@ pub channels_less : (n number : ℕ) (part : Part) (array : Option Array) → n 
 channels_less n number part array less =
     let old : loan_count (object_of part array) ≡ lent_once array + length part.channels + length part.loans = refl in
     let new : loan_count (object_of (unmap_in number part) array) ≡ lent_once array + length (unmap_in number part).channels + length part.loans = refl in
+    omega (arith, less, old, new)
+
+pub loans_less : (n number : ℕ) (part : Part) (array : Option Array) → n + length (end_in number part).loans ≡ length part.loans →
+    n + loan_count (object_of (end_in number part) array) ≡ loan_count (object_of part array)
+loans_less n number part array less =
+    let old : loan_count (object_of part array) ≡ lent_once array + length part.channels + length part.loans = refl in
+    let new : loan_count (object_of (end_in number part) array) ≡ lent_once array + length part.channels + length (end_in number part).loans = refl in
     omega (arith, less, old, new)

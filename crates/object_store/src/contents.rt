@@ -1,14 +1,14 @@
 //! The counts of objects follow the contents of arrays.
-ghost use Rattle.std.specs.Prelude.{◌≡◌, ℕ, ◌+◌, ◌<◌, ◌≤◌, ◌^◌, [], IfSome, IsSome, length, option_copied, option_map};
+ghost use Rattle.std.specs.Prelude.{◌≡◌, ℕ, ◌+◌, ◌<◌, ◌≤◌, ◌^◌, [], IfSome, IsSome, None, Some, length, option_copied, option_map};
 ghost use Rattle.dev_types.specs.Blocks.{FitsBlock};
-ghost use Rattle.array_objects.specs.Stores.{Fits, block_at};
+ghost use Rattle.array_objects.specs.Stores.{ChangesAt, Fits, block_at};
 ghost use Rattle.ref_counts.specs.CountMaps.{counts_at, named_at};
 ghost use Rattle.seq_model.specs.Life.{times};
 ghost use Rattle.object_store.specs.Moves.{Moves};
 ghost use Rattle.object_store.specs.Parts.{named_in_block, with_content};
 
 use crate::account::{name_elements, unname_elements};
-use array_objects::ArrayStore;
+use array_objects::{ArrayStore, Block};
 use byte_view::Strided;
 use dev_types::{Bytes, Handle};
 use ref_counts::Counts;
@@ -52,4 +52,16 @@ pub fn unname_content(counts: &mut Counts, arrays: &ArrayStore, h: Handle, old: 
         let elements = Strided::over(old.as_slice(), block.ty, block.stride, block.count);
         unname_elements(counts, &elements);
     }
+}
+
+/// Takes the block of an array, which is there, out again.
+pub fn taken_back(arrays: &mut ArrayStore, h: Handle) -> Block
+    requires { IsSome (block_at arrays.old h) }
+    ensures block { Some result ≡ block_at arrays.old h }
+    ensures changes { ChangesAt arrays.old arrays.new h None }
+{
+    let Some(block) = arrays.remove(h) else {
+        unreachable!();
+    };
+    block
 }

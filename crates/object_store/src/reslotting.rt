@@ -61,6 +61,19 @@ pub fn lend_at(slots: &mut Table<Slot>, h: Handle, loan: ParameterLoan) -> Resul
     slot.lend(loan)
 }
 
+/// The arrays with this number, that are written for parameters of the object with this handle, which is there, are written no more; tells
+/// how many they were.
+pub fn end_loan_at(slots: &mut Table<Slot>, h: Handle, number: u64) -> u64
+    requires { IsSome (value_at slots.old h) }
+    ensures changes { Reslots slots.old slots.new h (end_in number) }
+    ensures count { IfSome (value_at slots.old h) (λ p. result + length (end_in number p).loans ≡ length p.loans) }
+{
+    let Some(slot) = slots.get_mut(h) else {
+        unreachable!();
+    };
+    slot.end_loan(number)
+}
+
 /// One flight more holds the object with this handle, which is there.
 pub fn hold_at(slots: &mut Table<Slot>, h: Handle)
     requires there { IsSome (value_at slots.old h) }

@@ -7,19 +7,23 @@ ghost use Rattle.std.specs.Ordering.{nat_cmp};
 ghost use Rattle.std.specs.Option.{MatchOption, option_and_then, option_map, option_map_or};
 ghost use Rattle.kind_tables.specs.SceneObjects.{object_in, value_named, with_value, without_value};
 ghost use Rattle.seq_model.specs.State.{Empty, array_loan, changed_at, empty, object_at, with_object};
-ghost use Rattle.seq_model.specs.Steps.{change_array, commit, discard, fresh, holding, lend_parameter, lent, map_channel, set_phase, set_staged, unmap_channel};
+ghost use Rattle.seq_model.specs.Steps.{change_array, commit, discard, end_parameter_loan, fresh, holding, lend_parameter, lent, map_channel, set_phase, set_staged, unmap_channel};
 ghost use Rattle.object_store.specs.Phases.{phase_of};
+ghost use Rattle.dev_types.specs.declared.data_types.DataType.TheVariants as ty;
+ghost use Rattle.dev_types.specs.declared.values.Value.TheVariants as value;
 ghost use Rattle.scene_read.specs.Reading.{lent as lent_block};
 
 use crate::account::{account, unname_object, unname_times};
-use crate::contents::{bytes_at, elements_len, name_content, unname_content};
-use crate::reslotting::{hold_at, lend_at, map_channel_at, show_at, unhold_at, unmap_channel_at};
+use crate::contents::{bytes_at, elements_len, name_content, taken_back, unname_content};
+use crate::reslotting::{
+    end_loan_at, hold_at, lend_at, map_channel_at, show_at, unhold_at, unmap_channel_at,
+};
 use crate::slots::{ParameterLoan, Shows, Slot};
 use crate::staging::{commit_at, is_there, names_at, set_at, unset_all_at, unset_at};
 use crate::stops::Stops;
 use array_objects::{ArrayStore, Block, Lent};
 use byte_view::Strided;
-use dev_types::{Bytes, Channel, Handle, Name, NoMemory, Refused, Value};
+use dev_types::{Bytes, Channel, DataType, Handle, Name, NoMemory, Refused, Value};
 use handle_table::Table;
 use kind_tables::Kind;
 use ref_counts::Counts;
@@ -371,6 +375,60 @@ impl Store {
         self.counts.name(h);
         self.bound += 1;
         Ok(())
+    }
+
+    /// The arrays that are written under a number for parameters of an object, which is there, are written no more.
+    pub fn end_parameter_loan(&mut self, h: Handle, number: u64)
+        requires { IsSome (object_at self.old.state h) }
+        ensures { self.new ≡ record self.old { state = changed_at h (end_parameter_loan number) self.old.state } }
+    {
+        let ended = end_loan_at(&mut self.slots, h, number);
+        unname_times(&mut self.counts, h, ended);
+    }
+
+    /// Makes an array with this block of at most 2^28 elements, for which there is room, and stages it for an object, which is there, as
+    /// is each object that the elements name. It has a public reference.
+    ///
+    /// # Errors
+    /// `NoMemory`; the block comes back, and all is as it was.
+    pub fn stage_array(
+        &mut self,
+        alloc: Global,
+        h: Handle,
+        name: &Name,
+        block: Block,
+    ) -> Result<Handle, (NoMemory, Block)>
+        requires room { self.old.ready ≡ true }
+        requires fits { Fits block }
+        requires short { block.count ≤ 2 ^ 28 }
+        requires there { IsSome (object_at self.old.state h) }
+        requires named { (k : ℕ) → 0 < times k (named_in_block (Some block)) → IsSome (object_at self.old.state k) }
+        ensures handle { IfOk result (λ made. made ≡ self.old.state.next) }
+        ensures store { OnOk result (self.new ≡ record {
+          state = changed_at h (set_staged (with_value name.now (value.Object ty.Array1D self.old.state.next))) (with_object (array_of block) self.old.state);
+          public = self.old.public ++ (self.old.state.next, 1) ∷ [];
+          holds = self.old.holds ++ (self.old.state.next, 0) ∷ [];
+          ready = false;
+          places = self.old.places;
+        }) }
+        ensures returned { IfErr result (λ e. e.1 ≡ block) }
+        ensures err { OnErr result (self.new ≡ self.old) }
+    {
+        let (ty, count) = (block.ty, block.count);
+        if count > MOST_NAMES || self.bound >= MOST_NAMES {
+            return Err((NoMemory, block));
+        }
+        let next = self.slots.next();
+        self.arrays.add(alloc, next, block)?;
+        let v = Value::Object(DataType::Array1D, next);
+        let told = match set_at(&mut self.slots, alloc, h, name, &v) {
+            Ok(told) => told,
+            Err(_) => return Err((NoMemory, taken_back(&mut self.arrays, next))),
+        };
+        name_content(&mut self.counts, &self.arrays, next);
+        account(&mut self.counts, &told);
+        self.bound += count + 1;
+        Ok(self.slots.insert(Slot::new(alloc, Kind::Array(ty))))
     }
 
     /// One flight more holds an object, which is there.
