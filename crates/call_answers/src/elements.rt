@@ -4,9 +4,9 @@ ghost use Rattle.std.specs.Option.{option_to_list};
 ghost use Rattle.kind_tables.specs.SceneObjects.{object_in, objects_in};
 ghost use Rattle.call_answers.specs.Named.{block_of, named_below};
 
-use kind_tables::object_in;
 use byte_view::Strided;
 use dev_types::{Handle, Value};
+use kind_tables::object_in;
 use std::alloc::{AllocError, Global};
 
 /// Adds an item, if there is one.

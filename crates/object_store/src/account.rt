@@ -10,10 +10,10 @@ ghost use Rattle.array_objects.specs.Stores.{Fits};
 ghost use Rattle.object_store.specs.Moves.{Moves};
 ghost use Rattle.object_store.specs.Parts.{named_below, named_in_block};
 
-use kind_tables::object_in;
 use array_objects::Block;
 use byte_view::Strided;
 use dev_types::{Handle, Value};
+use kind_tables::object_in;
 use param_stage::{HandleList, Named, Params};
 use ref_counts::Counts;
 
