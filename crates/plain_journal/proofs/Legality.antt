@@ -25,7 +25,7 @@ use Rattle.seq_model.specs.declared.calls.Entry.TheVariants.{Called, Finished, L
 use Rattle.seq_model.specs.declared.calls.Reply.{Reply}
 use Rattle.seq_model.specs.declared.calls.Reply.TheVariants as reply
 use Rattle.plain_journal.proofs.RenderFacts.{was_rendered}
-use Rattle.plain_journal.proofs.SeenTiles.{HaveTiles, SeesNone, answer_sees_none, like_itself}
+use Rattle.plain_journal.proofs.SeenTiles.{HasTiles, HaveTiles, SeesNone, answer_sees_none, like_itself, of_all_flights}
 use Rattle.plain_journal.specs.Open.{IsOpen, IsUnseen}
 
 -- what a history with one more entry lets follow, and what its replies told
@@ -117,18 +117,23 @@ have_tiles past led within h t flies =
     product : (a b : ℕ) → 1 ≤ a → 1 ≤ b → 0 < a * b
     product a b first second = grind (arith)
 
--- a call with its reply
-pub called_is_legal : (past : Past) → past ≡ after past.seen → IsUnseen past.seen → IsOpen past.seen → ((t f : ℕ) → frame_at past.seen t ≡ Some f → IsSceneWithin (scene_at past.seen t)) →
-    (actor : ℕ) (call : Call) (r : Reply) → answer past call ≡ Some r → is_content_sound past call ≡ true → IsUnseen (past.seen ++ Called actor call r ∷ [])
+-- a call with its reply, where the flight that it asks for has tiles
+pub call_is_legal : (past : Past) → past ≡ after past.seen → IsUnseen past.seen → IsOpen past.seen → (actor : ℕ) (call : Call) (r : Reply) → HasTiles past call →
+    answer past call ≡ Some r → is_content_sound past call ≡ true → IsUnseen (past.seen ++ Called actor call r ∷ [])
 unfolding IsAnswer
-called_is_legal past led now open_ within actor call r is sound =
-    let none : SeesNone r = answer_sees_none past call r (have_tiles past led within) is in
+call_is_legal past led now open_ actor call r tiles is sound =
+    let none : SeesNone r = answer_sees_none past call r tiles is in
     unseen_more past (Called actor call r) led now
     (record {
       placed = (subst (λ x. MatchOption x ⊥ (λ a. IsLike a r)) (sym is) (like_itself r none), sound);
       rising = rises_from_none (readings_of past.seen) (reading past (Called actor call r)) now.unseen;
     })
     (open_ actor call r) (reads_none past actor call r none)
+
+pub called_is_legal : (past : Past) → past ≡ after past.seen → IsUnseen past.seen → IsOpen past.seen → ((t f : ℕ) → frame_at past.seen t ≡ Some f → IsSceneWithin (scene_at past.seen t)) →
+    (actor : ℕ) (call : Call) (r : Reply) → answer past call ≡ Some r → is_content_sound past call ≡ true → IsUnseen (past.seen ++ Called actor call r ∷ [])
+called_is_legal past led now open_ within actor call r is sound =
+    call_is_legal past led now open_ actor call r (of_all_flights past call (have_tiles past led within)) is sound
 
 pub called_is_open : (past : Past) → IsOpen past.seen → (actor : ℕ) (call : Call) (r : Reply) → IsOpen (past.seen ++ Called actor call r ∷ [])
 called_is_open past open_ actor call r further next answer = follow_more past.seen (Called actor call r) (Called further next answer) (open_ further next answer) refl
