@@ -1,3 +1,4 @@
 -- Lemmas of this crate.
+pub mod Complete
 mod OptionFacts
 mod WriteFacts

@@ -1,5 +1,6 @@
 -- Why a run ends early, and what each cause says.
 use Rattle.std.specs.Prelude.{⊤, List, ℕ, Option, Some, Bool}
+use Rattle.replay_io.specs.Faults.{Rose}
 use Rattle.replay_io.specs.declared.streams.NotRead.{NotRead}
 use Rattle.replay_io.specs.declared.streams.NotRead.TheVariants.{Failed as read-failed, NoMemory as read-no-memory}
 use Rattle.replay_io.specs.declared.sink.NotWritten.{NotWritten}
@@ -40,3 +41,7 @@ IsCauseAfter Write = ⊤
 IsCauseAfter Words = ⊥
 IsCauseAfter Read = ⊥
 IsCauseAfter (Trace fault) = ⊥
+
+-- no fault was counted
+abbrev pub NoneRose : ℕ → ℕ → Type 0
+NoneRose before now = Rose before now → ⊥

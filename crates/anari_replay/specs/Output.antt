@@ -1,9 +1,9 @@
 -- What each command reads, makes and writes, and how it ends.
 use Rattle.std.specs.Prelude.{◌≡◌, ◌⊎◌, ⊤, ℕ, List, [], Option, Some, None, Bool}
-use Rattle.replay_core.specs.Reports.{report}
+use Rattle.report_text.specs.Reports.{report}
 use Rattle.seq_model.specs.Histories.{History}
 use Rattle.table_text.specs.Tables.{description}
-use Rattle.anari_replay.specs.Input.{IsReplay}
+use Rattle.anari_replay.specs.Input.{HasTrace, IsReplay}
 use Rattle.anari_replay.specs.declared.words.Command.{Command}
 use Rattle.anari_replay.specs.declared.words.Command.TheVariants.{Solo, Describe}
 
@@ -12,6 +12,12 @@ abbrev pub IsEnding : Option Command → ℕ → Type 0
 IsEnding None status = status ≡ 2
 IsEnding (Some (Solo _)) status = (status ≡ 0) ⊎ (status ≡ 3) ⊎ (status ≡ 4) ⊎ (status ≡ 5) ⊎ (status ≡ 6)
 IsEnding (Some Describe) status = (status ≡ 0) ⊎ (status ≡ 3) ⊎ (status ≡ 5)
+
+-- there is a command, and where it reads it finds a trace
+abbrev pub FindsTrace : Option Command → Option (List ℕ) → Type 0
+FindsTrace None left = ⊥
+FindsTrace (Some (Solo _)) left = HasTrace left
+FindsTrace (Some Describe) left = ⊤
 
 -- all but a replay read nothing
 abbrev pub ReadsNothing : Option Command → Type 0

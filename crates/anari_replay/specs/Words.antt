@@ -8,8 +8,8 @@ use Rattle.std.specs.Str.{bytes_eq}
 use Rattle.anari_replay.specs.Options.{are_taken, options_of, value_of}
 use Rattle.anari_replay.specs.declared.words.Command.{Command}
 use Rattle.anari_replay.specs.declared.words.Command.TheVariants.{Solo, Describe}
-use Rattle.replay_core.specs.declared.prints.Print.{Print}
-use Rattle.replay_core.specs.declared.prints.Print.TheVariants.{Images, Journal, Summary}
+use Rattle.report_text.specs.declared.prints.Print.{Print}
+use Rattle.report_text.specs.declared.prints.Print.TheVariants.{Images, Journal, Summary}
 
 -- what is printed, by its word
 abbrev pub print_of : List ℕ → Option Print

@@ -1,7 +1,7 @@
 //! The top call: words and a trace in, what the words ask for out.
-ghost use Rattle.std.specs.Prelude.{◌≡◌, ◌↔◌, [], None, false, IsSome, IfErr, IfOk, IsErrOf, OnErr, OnOk};
+ghost use Rattle.std.specs.Prelude.{◌≡◌, ◌↔◌, ◌⊎◌, [], None, false, IsSome, IfErr, IfOk, IsErrOf, OnErr, OnOk};
 ghost use Rattle.std.specs.Io.KnownBytes.{Appends};
-ghost use Rattle.replay_core.specs.Reports.{report};
+ghost use Rattle.report_text.specs.Reports.{report};
 ghost use Rattle.replay_core.specs.Views.{notices_of};
 ghost use Rattle.replay_io.specs.Faults.{Rose};
 ghost use Rattle.replay_io.specs.Streams.{AppendsPrefix};
@@ -10,17 +10,17 @@ ghost use Rattle.seq_model.specs.Legal.{Legal};
 ghost use Rattle.seq_model.specs.Told.{told};
 ghost use Rattle.table_text.specs.Tables.{description};
 ghost use Rattle.anari_replay.specs.Words.{commanded};
-ghost use Rattle.anari_replay.specs.Input.{IsRefused, IsReplay};
-ghost use Rattle.anari_replay.specs.Faults.{IsCauseAfter, IsCauseBefore};
+ghost use Rattle.anari_replay.specs.Input.{GaveNoMore, IsRefused, IsReplay};
+ghost use Rattle.anari_replay.specs.Faults.{IsCauseAfter, IsCauseBefore, NoneRose};
 ghost use Rattle.anari_replay.specs.Outcome.{IsAfterReplay, IsBeforeReplay, IsInPart};
-ghost use Rattle.anari_replay.specs.Output.{IsEnding, IsHistoryOf, MakesNothing, ReadsNothing, output_of};
+ghost use Rattle.anari_replay.specs.Output.{FindsTrace, IsEnding, IsHistoryOf, MakesNothing, ReadsNothing, output_of};
 
 use crate::fault::Fault;
 use crate::outcome::Outcome;
 use crate::words::{Command, command_of};
-use replay_core::{Print, Replayed, solo};
+use replay_core::{Replayed, solo};
 use replay_io::{Sink, Source, read_up_to, write_all};
-use report_text::report;
+use report_text::{Print, report};
 use std::alloc::Global;
 use table_text::describe;
 use trace_text::read_trace;
@@ -41,8 +41,14 @@ pub fn run_plain<S: Source, K: Sink>(
     ensures known { IsEnding (commanded words.now) result.status }
     ensures words { (result.status ≡ 2) ↔ (commanded words.now ≡ None) }
 
-    // Only a replay reads.
+    // A command that finds a trace where it reads is done, but for want of memory, where no fault is counted.
+    ensures complete { FindsTrace (commanded words.now) (S.left source.old)
+        → NoneRose (S.faults source.old) (S.faults source.new) → NoneRose (K.faults sink.old) (K.faults sink.new)
+        → (result.status ≡ 0) ⊎ (result.status ≡ 3) }
+
+    // Only a replay reads, and no more than a trace may have and one byte.
     ensures unread { ReadsNothing (commanded words.now) → source.new ≡ source.old }
+    ensures taken { GaveNoMore (S.left source.old) (S.left source.new) }
 
     // A fault is one that the source or the sink counted in this call.
     ensures read_fault { result.status ≡ 4 → Rose (S.faults source.old) (S.faults source.new) }
@@ -78,6 +84,7 @@ pub fn run_plain<S: Source, K: Sink>(
 }
 
 /// Does a command, or refuses the words where there is none.
+#[tactic(auto, using(crate::proofs::Complete::gave_nothing))]
 fn run_command<S: Source, K: Sink>(
     alloc: Global,
     command: Option<Command>,
@@ -87,6 +94,7 @@ fn run_command<S: Source, K: Sink>(
     ensures known { IsEnding command result.status }
     ensures words { (result.status ≡ 2) ↔ (command ≡ None) }
     ensures unread { ReadsNothing command → source.new ≡ source.old }
+    ensures taken { GaveNoMore (S.left source.old) (S.left source.new) }
     ensures read_fault { result.status ≡ 4 → Rose (S.faults source.old) (S.faults source.new) }
     ensures write_fault { result.status ≡ 5 → Rose (K.faults sink.old) (K.faults sink.new) }
     ensures refused { result.status ≡ 6
@@ -124,6 +132,7 @@ fn run_solo<S: Source, K: Sink>(
     sink: &mut K,
 ) -> Outcome
     ensures known { IsEnding (Some (Command.Solo print)) result.status }
+    ensures taken { GaveNoMore (S.left source.old) (S.left source.new) }
     ensures read_fault { result.status ≡ 4 → Rose (S.faults source.old) (S.faults source.new) }
     ensures write_fault { result.status ≡ 5 → Rose (K.faults sink.old) (K.faults sink.new) }
     ensures refused { result.status ≡ 6
@@ -154,6 +163,7 @@ fn run_solo<S: Source, K: Sink>(
 /// The replay of the trace that `source` gives. Each cause of an early end is found before anything
 /// after it is done.
 fn replay<S: Source>(alloc: Global, source: &mut S) -> Result<Replayed, Fault>
+    ensures taken { GaveNoMore (S.left source.old) (S.left source.new) }
     ensures read_fault { IsErrOf result Fault.Read → Rose (S.faults source.old) (S.faults source.new) }
     ensures cause { IfErr result
         (IsCauseBefore (S.left source.old) (S.left source.new) (S.ended source.new)) }
@@ -189,7 +199,8 @@ fn write_report<K: Sink>(
     if replayed.short {
         return Err(Fault::Memory);
     }
-    let text = report(alloc, print, replayed)?;
+    let told = replayed.told.as_slice();
+    let text = report(alloc, print, &replayed.history, told, replayed.builds)?;
     write_all(sink, text.as_slice())?;
     Ok(())
 }

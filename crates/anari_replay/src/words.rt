@@ -5,7 +5,7 @@ ghost use Rattle.anari_replay.specs.Words.{commanded, describe_of, print_of, sol
 
 use crate::fault::Fault;
 use crate::options::{are_taken, value_of};
-use replay_core::Print;
+use report_text::Print;
 use std::env;
 use std::io::ErrorKind;
 use std::rt::Env;

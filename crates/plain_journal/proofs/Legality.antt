@@ -20,7 +20,9 @@ use Rattle.seq_model.specs.declared.calls.Entry.{Entry}
 use Rattle.seq_model.specs.declared.calls.Entry.TheVariants.{Called, Finished, Left}
 use Rattle.seq_model.specs.declared.calls.Reply.{Reply}
 use Rattle.seq_model.specs.declared.calls.Reply.TheVariants as reply
-use Rattle.plain_journal.proofs.SeenTiles.{SeesNone, answer_sees_none, like_itself}
+use Rattle.past_laws.proofs.OpenFacts.{open_lets, readings_more}
+use Rattle.past_laws.proofs.RenderFacts.{have_tiles}
+use Rattle.plain_journal.proofs.SeenTiles.{HasTiles, SeesNone, answer_sees_none, like_itself, of_all_flights}
 use Rattle.plain_journal.specs.Unseen.{IsUnseen}
 use Rattle.past_laws.specs.Open.{IsOpen}
 
@@ -52,18 +54,23 @@ reads_none past actor (RenderFrame h) (reply.Denied (InFlight given of)) none = 
 reads_none past actor (MapFrame h c) (reply.Denied (InFlight given of)) none = ticket_reads_none given none.0 (ticket_in (phase_at past h))
 reads_none past actor _ _ none = tt
 
--- a call with its reply
-pub called_is_legal : (past : Past) → past ≡ after past.seen → IsUnseen past.seen → IsOpen past.seen → ((t f : ℕ) → frame_at past.seen t ≡ Some f → IsSceneWithin (scene_at past.seen t)) →
-    (actor : ℕ) (call : Call) (r : Reply) → answer past call ≡ Some r → is_content_sound past call ≡ true → IsUnseen (past.seen ++ Called actor call r ∷ [])
+-- a call with its reply, where the flight that it asks for has tiles
+pub call_is_legal : (past : Past) → past ≡ after past.seen → IsUnseen past.seen → IsOpen past.seen → (actor : ℕ) (call : Call) (r : Reply) → HasTiles past call →
+    answer past call ≡ Some r → is_content_sound past call ≡ true → IsUnseen (past.seen ++ Called actor call r ∷ [])
 unfolding IsAnswer
-called_is_legal past led now open_ within actor call r is sound =
-    let none : SeesNone r = answer_sees_none past call r (have_tiles past led within) is in
+call_is_legal past led now open_ actor call r tiles is sound =
+    let none : SeesNone r = answer_sees_none past call r tiles is in
     unseen_more past (Called actor call r) led now
     (record {
       placed = (subst (λ x. MatchOption x ⊥ (λ a. IsLike a r)) (sym is) (like_itself r none), sound);
       rising = rises_from_none (readings_of past.seen) (reading past (Called actor call r)) now.unseen;
     })
     (open_ actor call r) (reads_none past actor call r none)
+
+pub called_is_legal : (past : Past) → past ≡ after past.seen → IsUnseen past.seen → IsOpen past.seen → ((t f : ℕ) → frame_at past.seen t ≡ Some f → IsSceneWithin (scene_at past.seen t)) →
+    (actor : ℕ) (call : Call) (r : Reply) → answer past call ≡ Some r → is_content_sound past call ≡ true → IsUnseen (past.seen ++ Called actor call r ∷ [])
+called_is_legal past led now open_ within actor call r is sound =
+    call_is_legal past led now open_ actor call r (of_all_flights past call (have_tiles past led within)) is sound
 
 -- the end of a flight
 pub finished_is_legal : (past : Past) (t : ℕ) → past ≡ after past.seen → IsUnseen past.seen → IsOpen past.seen → is_flying past.state t ≡ true → IsUnseen (past.seen ++ Finished t ∷ [])

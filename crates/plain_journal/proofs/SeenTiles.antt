@@ -47,6 +47,19 @@ like_itself (reply.Denied (InFlight given of)) none = (given, subst (λ n. n < o
 like_itself (reply.Denied _) none = refl
 like_itself _ none = refl
 
+-- the flight that a call asks for, if there is one, has tiles
+abbrev pub HasTiles : Past → Call → Type 0
+HasTiles past (RenderFrame h) = (t : ℕ) → phase_at past h ≡ Flight t → 0 < tiles_at past.seen t
+HasTiles past (FrameReady h wait) = (t : ℕ) → phase_at past h ≡ Flight t → 0 < tiles_at past.seen t
+HasTiles past (MapFrame h channel) = (t : ℕ) → phase_at past h ≡ Flight t → 0 < tiles_at past.seen t
+HasTiles past _ = Unit {0}
+
+pub of_all_flights : (past : Past) (call : Call) → HaveTiles past → HasTiles past call
+of_all_flights past (RenderFrame h) tiles = tiles h
+of_all_flights past (FrameReady h wait) tiles = tiles h
+of_all_flights past (MapFrame h channel) tiles = tiles h
+of_all_flights past _ tiles = tt
+
 -- such a refusal
 abbrev SeenIn : Option Refused → Type 0
 SeenIn x = MatchOption x (Unit {0}) (λ refused. SeesNone (reply.Denied refused))
@@ -169,7 +182,7 @@ of_frame : (past : Past) (h : ℕ) (xs : List (Option Refused)) → AllSeenIn xs
 of_frame past h xs rest = (of_dead past h, (of_not_held past h, (of_wrong_kind past h ty.Frame, rest)))
 
 -- and all those of a call
-of_call : (past : Past) (call : Call) → HaveTiles past → AllSeenIn (refusals_of past call)
+of_call : (past : Past) (call : Call) → HasTiles past call → AllSeenIn (refusals_of past call)
 unfolding refusals_of
 of_call past (NewObject t subtype) tiles = (of_then _ BadSubtype tt, tt)
 of_call past (NewArray elem count stride origin bytes) tiles =
@@ -187,12 +200,12 @@ of_call past (MapParameterArray h name elem count) tiles = (of_dead past h, (of_
 of_call past (UnmapParameterArray h name number bytes) tiles = (of_then _ NotMapped tt, tt)
 of_call past (RenderFrame h) tiles =
     of_frame past h (first_mapped (walk_at past h) ∷ in_flight past (phase_at past h) ∷ some_channel_mapped past h ∷ fault_of (scene_objects past.state) (walk_at past h) ∷ [])
-    (of_mapped (walk_at past h), (of_flight past (phase_at past h) (tiles h), (of_then _ ChannelMapped tt, (of_fault (scene_objects past.state) (walk_at past h), tt))))
+    (of_mapped (walk_at past h), (of_flight past (phase_at past h) tiles, (of_then _ ChannelMapped tt, (of_fault (scene_objects past.state) (walk_at past h), tt))))
 of_call past (FrameReady h wait) tiles = of_frame past h (no_picture (phase_at past h) ∷ []) (of_no_picture (phase_at past h), tt)
 of_call past (DiscardFrame h) tiles = of_frame past h (some_channel_mapped past h ∷ []) (of_then _ ChannelMapped tt, tt)
 of_call past (MapFrame h c) tiles =
     of_frame past h (in_flight past (phase_at past h) ∷ no_picture (phase_at past h) ∷ this_channel_mapped past h c ∷ no_channel past (phase_at past h) c ∷ [])
-    (of_flight past (phase_at past h) (tiles h), (of_no_picture (phase_at past h), (of_then _ ChannelMapped tt, (of_no_channel past (phase_at past h) c, tt))))
+    (of_flight past (phase_at past h) tiles, (of_no_picture (phase_at past h), (of_then _ ChannelMapped tt, (of_no_channel past (phase_at past h) c, tt))))
 of_call past (UnmapFrame h number) tiles = (of_then _ NotMapped tt, tt)
 of_call past (GetProperty zero name) tiles = (of_then _ NoSuchName tt, tt)
 of_call past (GetProperty (suc h) name) tiles =
@@ -222,13 +235,13 @@ of_picture past c Empty = tt
 of_picture past c (Flight t) = tt
 of_picture past c (Done t) = tt
 
-of_grant : (past : Past) (call : Call) → HaveTiles past → SeenInGrant (granted past call)
+of_grant : (past : Past) (call : Call) → HasTiles past call → SeenInGrant (granted past call)
 of_grant past (NewObject t subtype) tiles = tt
 of_grant past (NewArray elem count stride origin bytes) tiles = tt
 of_grant past (MapArray h) tiles = tt
 of_grant past (MapParameterArray h name elem count) tiles = tt
 of_grant past (UnmapParameterArray h name number bytes) tiles = tt
-of_grant past (FrameReady h wait) tiles = of_readiness past wait (phase_at past h) (tiles h)
+of_grant past (FrameReady h wait) tiles = of_readiness past wait (phase_at past h) tiles
 of_grant past (MapFrame h c) tiles = of_picture past c (phase_at past h)
 of_grant past (GetProperty h name) tiles = of_reply reply.Val (λ v. tt) (property_of past h)
 of_grant past (Subtypes t) tiles = tt
@@ -238,7 +251,7 @@ of_grant past (Retain h) tiles = tt
 of_grant past _ tiles = tt
 
 -- so is the reply to a call
-pub answer_sees_none : (past : Past) (call : Call) (r : Reply) → HaveTiles past → answer past call ≡ Some r → SeesNone r
+pub answer_sees_none : (past : Past) (call : Call) (r : Reply) → HasTiles past call → answer past call ≡ Some r → SeesNone r
 unfolding answer refusal
 answer_sees_none past call r tiles is = by (refusal past call) (granted past call) (of_first (refusals_of past call) (of_call past call tiles)) (of_grant past call tiles) is
   where

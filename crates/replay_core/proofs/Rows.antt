@@ -1,7 +1,5 @@
 -- The triangle's trace on one thread, computed.
-use Rattle.std.proofs.Common.{◌≡◌, [], ◌∷◌, refl}
-use Rattle.std.specs.Fmt.{digits}
-use Rattle.std.specs.Prelude.{codes}
+use Rattle.std.proofs.Common.{◌≡◌, refl}
 use Rattle.fx_math.specs.Mat34.{axis_length, column, linear, placed, row, scaled_radius}
 use Rattle.fx_math.specs.Root.{isqrt, root_at, root_or_next}
 use Rattle.fx_math.specs.UnitVector.{halvings, halvings_within, long_length, normalized, shortened, unit}
@@ -29,27 +27,10 @@ use Rattle.seq_model.specs.Refusals.{refusal, refusals_of}
 use Rattle.seq_model.specs.Room.{is_full}
 use Rattle.seq_model.specs.Steps.{after, change, discard, effect, end_flight, end_flights, is_reached, is_reached_by, step, swept, take_in, unmap_parameter, with_reach}
 use Rattle.seq_model.specs.Told.{told, told_by, told_from}
-use Rattle.replay_core.specs.Follows.{Follows, FollowsOn}
 use Rattle.replay_core.specs.Solo.{replayed, solo}
-use Rattle.replay_core.specs.Examples.{triangle_image, triangle_trace}
-use Rattle.replay_core.specs.Reports.{lines_from, report}
-use Rattle.replay_core.specs.declared.prints.Print.TheVariants.{Images, Summary}
-use Rattle.seq_model.specs.declared.calls.Call.TheVariants.{RenderFrame}
-use Rattle.seq_model.specs.declared.calls.Entry.TheVariants.{Finished}
-use Rattle.seq_model.specs.Examples.{done, triangle_history, triangle_made}
+use Rattle.replay_core.specs.Examples.{triangle_trace}
+use Rattle.seq_model.specs.Examples.{triangle_history, triangle_made}
 
 pub triangle_solo : solo triangle_trace ≡ triangle_history
-unfolding Follows FollowsOn GoesOn IsAnswer Legal across add after answer axes_of axis_length below blend_hit blended bounds_of broken_parameter builds camera_ray change cleaned color_of column cosine cross crossing crossing_depth discard distance_at dot effect end_flight end_flights entered facing faded fault_of finish_blend first_from first_incomplete first_limit first_mapped first_out_of_range frame_at from_centre grown halvings halvings_within has_channel hit_after hits in_window incoming irradiance_at is_crossed is_full is_in_ball is_lower is_nearer is_reached is_reached_by is_root is_same_place is_settled isqrt lights_of linear live long_length mine named nearest neg normal_of normalized offset part picture picture_at pixel pixels_in placed point_at primitives_of public radiance reach reached_at refusal refusals_of replayed root_at root_or_next row scaled_down scaled_radius scene scene_at scene_by shade shapes_of share_of shortened shown solo sphere_depth state_before step sub swept take_in tile_rect tiles_at times to_byte told told_by told_from towards triangle_history triangle_made triangle_trace truncated turned unblended unit unmap_parameter walk walk_from walk_refusal weight with_reach
+unfolding GoesOn IsAnswer Legal across add after answer axes_of axis_length below blend_hit blended bounds_of broken_parameter builds camera_ray change cleaned color_of column cosine cross crossing crossing_depth discard distance_at dot effect end_flight end_flights entered facing faded fault_of finish_blend first_from first_incomplete first_limit first_mapped first_out_of_range frame_at from_centre grown halvings halvings_within has_channel hit_after hits in_window incoming irradiance_at is_crossed is_full is_in_ball is_lower is_nearer is_reached is_reached_by is_root is_same_place is_settled isqrt lights_of linear live long_length mine named nearest neg normal_of normalized offset part picture picture_at pixel pixels_in placed point_at primitives_of public radiance reach reached_at refusal refusals_of replayed root_at root_or_next row scaled_down scaled_radius scene scene_at scene_by shade shapes_of share_of shortened shown solo sphere_depth state_before step sub swept take_in tile_rect tiles_at times to_byte told told_by told_from towards triangle_history triangle_made triangle_trace truncated turned unblended unit unmap_parameter walk walk_from walk_refusal weight with_reach
 triangle_solo = refl
-
-pub triangle_follows : Follows triangle_trace triangle_history
-unfolding Follows FollowsOn GoesOn IsAnswer Legal across add after answer axes_of axis_length below blend_hit blended bounds_of broken_parameter builds camera_ray change cleaned color_of column cosine cross crossing crossing_depth discard distance_at dot effect end_flight end_flights entered facing faded fault_of finish_blend first_from first_incomplete first_limit first_mapped first_out_of_range frame_at from_centre grown halvings halvings_within has_channel hit_after hits in_window incoming irradiance_at is_crossed is_full is_in_ball is_lower is_nearer is_reached is_reached_by is_root is_same_place is_settled isqrt lights_of linear live long_length mine named nearest neg normal_of normalized offset part picture picture_at pixel pixels_in placed point_at primitives_of public radiance reach reached_at refusal refusals_of replayed root_at root_or_next row scaled_down scaled_radius scene scene_at scene_by shade shapes_of share_of shortened shown solo sphere_depth state_before step sub swept take_in tile_rect tiles_at times to_byte told told_by told_from towards triangle_history triangle_made triangle_trace truncated turned unblended unit unmap_parameter walk walk_from walk_refusal weight with_reach
-triangle_follows = ((refl, (refl, (refl, (refl, (refl, (refl, (refl, (refl, (refl, (refl, (refl, (refl, (refl, (refl, (refl, (refl, (refl, (refl, (refl, (refl, (refl, (refl, (refl, (refl, (refl, (refl, (refl, (refl, (tt, (refl, (refl, (refl, (tt, ((refl, refl))))))))))))))))))))))))))))))))))), refl)
-
--- what is printed of it
-pub triangle_reports :
-    (report Images triangle_history 1 ≡ triangle_image) ×
-    (report Summary triangle_history 1 ≡ codes "entries=33 images=1 deleted=2 builds=1\n") ×
-    (lines_from 28 (done (RenderFrame 9) ∷ Finished 28 ∷ []) ≡ codes "28 0 render 9 -> done\n29 - finished 28 -> noted\n")
-unfolding digits report Follows FollowsOn GoesOn IsAnswer Legal across add after answer axes_of axis_length below blend_hit blended bounds_of broken_parameter builds camera_ray change cleaned color_of column cosine cross crossing crossing_depth discard distance_at dot effect end_flight end_flights entered facing faded fault_of finish_blend first_from first_incomplete first_limit first_mapped first_out_of_range frame_at from_centre grown halvings halvings_within has_channel hit_after hits in_window incoming irradiance_at is_crossed is_full is_in_ball is_lower is_nearer is_reached is_reached_by is_root is_same_place is_settled isqrt lights_of linear live long_length mine named nearest neg normal_of normalized offset part picture picture_at pixel pixels_in placed point_at primitives_of public radiance reach reached_at refusal refusals_of replayed root_at root_or_next row scaled_down scaled_radius scene scene_at scene_by shade shapes_of share_of shortened shown solo sphere_depth state_before step sub swept take_in tile_rect tiles_at times to_byte told told_by told_from towards triangle_history triangle_made triangle_trace truncated turned unblended unit unmap_parameter walk walk_from walk_refusal weight with_reach
-triangle_reports = (refl, refl, refl)

@@ -1,5 +1,5 @@
 -- The triangle's trace.
-use Rattle.std.specs.Prelude.{ℕ, pos, List, [], ◌∷◌, ◌++◌, codes, true}
+use Rattle.std.specs.Prelude.{ℕ, pos, List, [], ◌∷◌, codes, true}
 use Rattle.dev_types.specs.declared.data_types.DataType.{DataType}
 use Rattle.dev_types.specs.declared.data_types.DataType.TheVariants as ty
 use Rattle.dev_types.specs.declared.handles.Channel.TheVariants.{Color}
@@ -60,18 +60,3 @@ triangle_trace = record {
     } ∷ [];
   } ∷ [];
 }
-
--- the image of its picture: rows from the top, three bytes a pixel
-abbrev red : List ℕ
-red = 255 ∷ 0 ∷ 0 ∷ []
-
-abbrev black : List ℕ
-black = 0 ∷ 0 ∷ 0 ∷ []
-
-abbrev pub triangle_image : List ℕ
-triangle_image =
-    codes "P6\n4 4\n255\n" ++ (
-    red ++ black ++ black ++ black ++
-    red ++ red ++ black ++ black ++
-    red ++ red ++ red ++ black ++
-    red ++ red ++ red ++ red)

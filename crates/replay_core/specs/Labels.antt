@@ -2,7 +2,7 @@
 use Rattle.std.specs.Prelude.{ℕ, ◌-◌, ◌*◌, ◌==◌, ◌&&◌, ◌||◌, not, nat_lt, Bool, List, [], ◌∷◌, ◌++◌, Option, Some, None, drop, length, map, take, if◌then◌else◌}
 use Rattle.std.specs.Int.{to_le_bytes, w64}
 use Rattle.std.specs.List.{find, range_with_len}
-use Rattle.std.specs.Option.{option_map_or}
+use Rattle.std.specs.Option.{option_map, option_map_or, option_to_list}
 use Rattle.std.specs.Str.{bytes_eq}
 use Rattle.dev_types.specs.DataTypes.{byte_size, is_element_type}
 use Rattle.dev_types.specs.declared.data_types.DataType.{DataType}
@@ -15,6 +15,8 @@ use Rattle.seq_model.specs.Refusals.{is_bad_layout}
 use Rattle.seq_model.specs.Steps.{zeros}
 use Rattle.seq_model.specs.declared.calls.Call.{Call}
 use Rattle.seq_model.specs.declared.calls.Call.TheVariants as call
+use Rattle.seq_model.specs.declared.calls.Reply.{Reply}
+use Rattle.seq_model.specs.declared.calls.Reply.TheVariants as reply
 use Rattle.trace_text.specs.declared.calls.ArrayData.{ArrayData}
 use Rattle.trace_text.specs.declared.calls.ArrayData.TheVariants.{Values, Objects}
 use Rattle.trace_text.specs.declared.calls.Query.{Query}
@@ -92,3 +94,9 @@ abbrev pub label_of : TraceCall → Option (List ℕ)
 label_of (New label _ _) = Some label
 label_of (NewArray label _ _ _ _ _) = Some label
 label_of _ = None
+
+-- the binding that a creation adds, if it was done
+abbrev pub binding_of : ℕ → ℕ → TraceCall → Reply → List Binding
+binding_of phase caller c (reply.Made h) =
+    option_to_list (option_map (λ label. record { label = label; handle = h; phase = phase; caller = caller }) (label_of c))
+binding_of phase caller c _ = []

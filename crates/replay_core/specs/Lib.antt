@@ -2,6 +2,5 @@ pub mod Examples
 pub mod Follows
 pub mod Labels
 pub mod Loans
-pub mod Reports
 pub mod Solo
 pub mod Views

@@ -1,5 +1,5 @@
 -- The loans of a replay: what is written into one where it is granted, and the unmap that ends it.
-use Rattle.std.specs.Prelude.{ℕ, ◌*◌, ◌≤◌, IsTrue, nat_lt, Bool, true, false, List, Option, Some, None, fold, if◌then◌else◌}
+use Rattle.std.specs.Prelude.{ℕ, ◌*◌, ◌≤◌, IsTrue, nat_lt, Bool, true, false, List, ◌∷◌, Option, Some, None, fold, if◌then◌else◌}
 use Rattle.std.specs.Option.{option_and_then, option_map, option_map_or}
 use Rattle.dev_types.specs.Blocks.{with_part}
 use Rattle.dev_types.specs.DataTypes.{byte_size, is_element_type, is_object_type}
@@ -83,3 +83,7 @@ opens (WithArray _ _) = true
 opens (WithParam _ _ _ _ _) = true
 opens (WithFrame _ _) = true
 opens _ = false
+
+-- the loans that are open after a call with its reply, the innermost first
+abbrev pub loans_after : Past → Meaning → TraceCall → Reply → List (Option Call) → List (Option Call)
+loans_after past meaning c r loans = if opens c then unmap_of past meaning c r ∷ loans else loans

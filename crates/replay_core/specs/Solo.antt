@@ -2,9 +2,9 @@
 -- finished first.
 use Rattle.std.specs.Prelude.{ℕ, Bool, true, false, List, [], ◌∷◌, ◌++◌, Option, Some, None, fold, if◌then◌else◌}
 use Rattle.std.specs.List.{enumerate_from}
-use Rattle.std.specs.Option.{option_map, option_map_or, option_to_list}
+use Rattle.std.specs.Option.{option_map_or}
 use Rattle.seq_model.specs.Endings.{ended, reply_to}
-use Rattle.replay_core.specs.Labels.{Meaning, call_of, handle_of, label_of}
+use Rattle.replay_core.specs.Labels.{Meaning, binding_of, call_of, handle_of}
 use Rattle.replay_core.specs.Loans.{opens, unmap_of}
 use Rattle.replay_core.specs.declared.bindings.Binding.{Binding}
 use Rattle.seq_model.specs.Contents.{entered}
@@ -55,12 +55,6 @@ ready_for past call = with_note Finished (asked_flight past call) past
 abbrev pub with_call : ℕ → Call → Past → Past
 with_call caller call past =
     with_note Left (stopped_flight past call (reply_to past call)) (step past (Called caller call (reply_to past call)))
-
--- the binding that a creation adds, if it was done
-abbrev pub binding_of : ℕ → ℕ → TraceCall → Reply → List Binding
-binding_of phase caller c (reply.Made h) =
-    option_to_list (option_map (λ label. record { label = label; handle = h; phase = phase; caller = caller }) (label_of c))
-binding_of phase caller c _ = []
 
 -- a reply that a call was done
 abbrev pub is_done : Option Reply → Bool

@@ -5,9 +5,9 @@ pub mod bindings;
 pub mod calls;
 pub mod examples;
 pub mod given;
+pub mod laws;
 pub mod loans;
 pub mod notices;
-pub mod prints;
 pub mod replays;
 #[cfg(test)]
 mod tests;
@@ -15,5 +15,4 @@ pub mod writes;
 
 pub use bindings::{Binding, Labels};
 pub use notices::NoticeList;
-pub use prints::Print;
 pub use replays::{Replayed, solo};

@@ -2,8 +2,8 @@
 ghost use Rattle.std.specs.Prelude.{◌≡◌, IfOk, option_to_list, true};
 ghost use Rattle.dev_types.specs.Blocks.{FitsBlock};
 ghost use Rattle.plain_device.specs.Views.{past_of};
+ghost use Rattle.replay_core.specs.Labels.{binding_of};
 ghost use Rattle.replay_core.specs.Loans.{IsRoomy, content_of, is_unmap, unmap_by, written};
-ghost use Rattle.replay_core.specs.Solo.{binding_of};
 ghost use Rattle.replay_core.specs.Views.{meaning_of};
 
 use crate::bindings::{Binding, Labels};

@@ -34,6 +34,13 @@ impl NoticeList {
         self.notices.is_empty()
     }
 
+    /// The notices, in order.
+    pub fn as_slice(&self) -> &[Notice]
+        ensures { result.now ≡ notices_of self.now }
+    {
+        self.notices.as_slice()
+    }
+
     /// Notice `i`, counted from 0.
     pub fn get(&self, i: u64) -> &Notice
         requires { i < length (notices_of self.now) }

@@ -9,7 +9,7 @@ use Rattle.std.proofs.lemmas.List.Elements.{All-nil, All-cons}
 use Rattle.std.proofs.lemmas.Option.{get_or_from_slice_get, slice_get_within}
 use Rattle.dev_types.specs.declared.handles.Channel.{Channel}
 use Rattle.picture_model.proofs.PictureSizes.{length-picture}
-use Rattle.replay_core.specs.Reports.{image_of}
+use Rattle.report_text.specs.Reports.{image_of}
 use Rattle.seq_model.proofs.Granted.{given}
 use Rattle.seq_model.specs.Answers.{IsLike, mapped_picture}
 use Rattle.seq_model.specs.Histories.{History}

@@ -1,3 +1,4 @@
 -- Lemmas of this crate.
 mod ImageFacts
 mod ReportFacts
+mod Rows

@@ -7,7 +7,7 @@ use Rattle.std.proofs.lemmas.List.{append-nil, length-take-le}
 use Rattle.std.proofs.lemmas.List.Sums.{count_by_more_no, count_by_more_yes}
 use Rattle.std.proofs.lemmas.Option.{get_or_from_slice_get, slice_get_within}
 use Rattle.ppm_out.specs.Lines.{line}
-use Rattle.replay_core.specs.Reports.{entry_text, lines_from}
+use Rattle.report_text.specs.Reports.{entry_text, lines_from}
 use Rattle.seq_model.specs.Histories.{History}
 use Rattle.seq_model.specs.declared.calls.Entry.{Entry}
 

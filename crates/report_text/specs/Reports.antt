@@ -12,8 +12,8 @@ use Rattle.ppm_out.specs.declared.entries.CallText.TheVariants as text
 use Rattle.ppm_out.specs.declared.entries.EntryText.{EntryText}
 use Rattle.ppm_out.specs.declared.entries.ReplyText.{ReplyText}
 use Rattle.ppm_out.specs.declared.entries.ReplyText.TheVariants as answer
-use Rattle.replay_core.specs.declared.prints.Print.{Print}
-use Rattle.replay_core.specs.declared.prints.Print.TheVariants.{Images, Journal, Summary}
+use Rattle.report_text.specs.declared.prints.Print.{Print}
+use Rattle.report_text.specs.declared.prints.Print.TheVariants.{Images, Journal, Summary}
 use Rattle.seq_model.specs.Histories.{History}
 use Rattle.seq_model.specs.Told.{told}
 use Rattle.seq_model.specs.declared.calls.Call.{Call}
@@ -97,8 +97,12 @@ summary history builds =
     (count_text (codes " deleted") (count_by is_deletion (told history)) ++
     (count_text (codes " builds") builds ++ codes "\n")))
 
+-- the printed journal of a history: a line for each entry, whose places count from 1
+unfoldable pub printed : History → List ℕ
+printed history = lines_from 1 history
+
 -- what is printed of a history with so many builds
 unfoldable pub report : Print → History → ℕ → List ℕ
 report Images history builds = flat_map image_of history
-report Journal history builds = lines_from 1 history
+report Journal history builds = printed history
 report Summary history builds = summary history builds

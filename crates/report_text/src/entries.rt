@@ -1,6 +1,6 @@
 //! Entries as they are printed.
 ghost use Rattle.std.specs.Prelude.{◌≡◌, IfOk};
-ghost use Rattle.replay_core.specs.Reports.{call_text, entry_text, reply_text};
+ghost use Rattle.report_text.specs.Reports.{call_text, entry_text, reply_text};
 
 use dev_types::NoMemory;
 use ppm_out::{CallText, EntryText, ReplyText};

@@ -2,7 +2,7 @@
 ghost use Rattle.std.specs.Prelude.{◌≡◌, ◌++◌, IfOk, OnOk, IsTrue, ◌↔◌};
 ghost use Rattle.std.specs.List.{flat_map};
 ghost use Rattle.kind_tables.specs.Kinds.{is_same_type};
-ghost use Rattle.replay_core.specs.Reports.{image_of};
+ghost use Rattle.report_text.specs.Reports.{image_of};
 ghost use Rattle.seq_model.specs.Legal.{Legal};
 ghost use Rattle.report_text.specs.Images.{HasWholeRows};
 

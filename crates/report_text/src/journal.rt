@@ -1,7 +1,7 @@
 //! The journal of a history.
 ghost use Rattle.std.specs.Prelude.{◌≡◌, ◌++◌, IfOk, OnOk};
 ghost use Rattle.ppm_out.specs.Lines.{line};
-ghost use Rattle.replay_core.specs.Reports.{entry_text, lines_from};
+ghost use Rattle.report_text.specs.Reports.{entry_text, printed};
 
 use crate::entries::entry_text;
 use dev_types::NoMemory;
@@ -13,8 +13,9 @@ use std::alloc::Global;
 ///
 /// # Errors
 /// `NoMemory` where there was none for the lines.
+#[tactic(auto, unfolding(crate::specs::Reports::printed))]
 pub(crate) fn journal(alloc: Global, history: &Journal) -> Result<Vec<u8>, NoMemory>
-    ensures { IfOk result (λ bytes. bytes.items ≡ lines_from 1 history.now) }
+    ensures { IfOk result (λ bytes. bytes.items ≡ printed history.now) }
 {
     let mut bytes = Vec::new(alloc);
     'entries: for i in 0..history.len() {

@@ -2,9 +2,12 @@
 #![tactic(auto)]
 
 mod entries;
+pub mod examples;
 mod images;
 mod journal;
+mod prints;
 mod reports;
 mod summary;
 
+pub use prints::Print;
 pub use reports::report;

@@ -1,3 +1,5 @@
+//! What may be printed of a replay.
+
 /// What a replay prints.
 #[derive(Clone, Copy, Debug, PartialEq, Eq)]
 pub enum Print {

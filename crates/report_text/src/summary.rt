@@ -1,11 +1,9 @@
 //! The summary of a replay.
-ghost use Rattle.std.specs.Prelude.{◌≡◌, IfOk, count_by};
-ghost use Rattle.replay_core.specs.Reports.{is_deletion, is_image, summary};
-ghost use Rattle.replay_core.specs.Views.{notices_of};
+ghost use Rattle.std.specs.Prelude.{◌≡◌, ◌<◌, IfOk, Some, count_by, length, slice_get};
+ghost use Rattle.report_text.specs.Reports.{is_deletion, is_image, summary};
 ghost use Rattle.seq_model.specs.Told.{told};
 
 use dev_types::{NoMemory, Notice};
-use replay_core::{NoticeList, Replayed};
 use seq_model::{Call, Entry, Journal, Reply};
 use std::alloc::Global;
 
@@ -13,14 +11,18 @@ use std::alloc::Global;
 ///
 /// # Errors
 /// `NoMemory` where there was none for the line.
-pub(crate) fn summary(alloc: Global, replayed: &Replayed) -> Result<Vec<u8>, NoMemory>
-    requires { notices_of replayed.now.told ≡ told replayed.now.history }
-    ensures { IfOk result (λ bytes. bytes.items ≡ summary replayed.now.history replayed.now.builds) }
+pub(crate) fn summary(
+    alloc: Global,
+    history: &Journal,
+    notices: &[Notice],
+    builds: u64,
+) -> Result<Vec<u8>, NoMemory>
+    requires { notices.now ≡ told history.now }
+    ensures { IfOk result (λ bytes. bytes.items ≡ summary history.now builds) }
 {
-    let entries = replayed.history.len();
-    let images = count_images(&replayed.history);
-    let deleted = count_deletions(&replayed.told);
-    let builds = replayed.builds;
+    let entries = history.len();
+    let images = count_images(history);
+    let deleted = count_deletions(notices);
     let line = format!(in alloc;
         "entries={entries} images={images} deleted={deleted} builds={builds}\n"
     )?;
@@ -39,14 +41,21 @@ fn count_images(history: &Journal) -> u64
 }
 
 /// How many deleters ran.
-fn count_deletions(told: &NoticeList) -> u64
-    ensures { result ≡ count_by is_deletion (notices_of told.now) }
+fn count_deletions(notices: &[Notice]) -> u64
+    ensures { result ≡ count_by is_deletion notices.now }
 {
     let mut count = 0;
-    for i in 0..told.len() {
-        count += u64::from(is_deletion(told.get(i)));
+    for i in 0..notices.len() {
+        count += u64::from(is_deletion(notice_at(notices, i)));
     }
     count
+}
+
+fn notice_at(notices: &[Notice], i: usize) -> &Notice
+    requires { i < length notices.now }
+    ensures { slice_get notices.now i ≡ Some result.now }
+{
+    &notices[i]
 }
 
 fn is_image(entry: &Entry) -> bool

@@ -3,8 +3,10 @@ use Rattle.std.specs.Prelude.{◌↔◌, []}
 use Rattle.std.specs.Io.KnownBytes.{Appends}
 use Rattle.replay_core.specs.Views.{notices_of}
 use Rattle.replay_io.specs.Streams.{AppendsPrefix}
+use Rattle.anari_replay.proofs.Complete.{completes}
 use Rattle.anari_replay.specs.Outcome.{IsAfterReplay, IsInPart}
 use Rattle.anari_replay.specs.Output.{IsEnding, IsHistoryOf, MakesNothing, ReadsNothing, output_of}
+use Rattle.anari_replay.specs.Words.{commanded}
 use Rattle.anari_replay.specs.declared.words.Command.{Command}
 use Rattle.anari_replay.proofs.replay.run_plain.Goals as goal
 
@@ -44,3 +46,10 @@ pub returns-clause-uncalled : goal.returns-clause-uncalled
 returns-clause-uncalled g c =
     subst (λ (command : Option Command). MakesNothing command → (c.run_command.result.history ≡ []) × (notices_of c.run_command.result.told ≡ [])) c.command_of.ensures
     c.run_command.ensures.uncalled
+
+pub returns-clause-complete : goal.returns-clause-complete
+returns-clause-complete g c =
+    completes (commanded c.args.words.now) (g.S.Source.left c.args.source.now) (g.S.Source.left c.run_command.new.source) (g.S.Source.ended c.run_command.new.source) c.run_command.result.fault
+    (g.S.Source.faults c.args.source.now) (g.S.Source.faults c.run_command.new.source) (g.K.Sink.faults c.args.sink.now) (g.K.Sink.faults c.run_command.new.sink) c.run_command.result.status
+    (subst (λ (command : Option Command). IsEnding command c.run_command.result.status) c.command_of.ensures c.run_command.ensures.known)
+    c.run_command.ensures.read_fault c.run_command.ensures.write_fault c.run_command.ensures.refused

@@ -1,5 +1,5 @@
 use Rattle.std.proofs.Common.{ℕ, subst, sym}
-use Rattle.replay_core.specs.Reports.{report}
+use Rattle.report_text.specs.Reports.{report}
 use Rattle.replay_io.specs.Streams.{AppendsPrefix}
 use Rattle.seq_model.specs.Histories.{History}
 use Rattle.anari_replay.specs.Input.{IsReplay}

@@ -1,6 +1,6 @@
 use Rattle.std.proofs.Common.{◌≡◌, take}
 use Rattle.std.specs.List.{flat_map}
-use Rattle.replay_core.specs.Reports.{image_of}
+use Rattle.report_text.specs.Reports.{image_of}
 use Rattle.report_text.proofs.images.images_of.Given as goal
 
 -- the images of the first i entries are written

@@ -1,5 +1,5 @@
 use Rattle.std.proofs.Common.{◌≡◌, take}
-use Rattle.replay_core.specs.Reports.{lines_from}
+use Rattle.report_text.specs.Reports.{lines_from}
 use Rattle.report_text.proofs.journal.journal.Given as goal
 
 -- the lines of the first i entries are written

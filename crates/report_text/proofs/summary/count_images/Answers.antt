@@ -1,5 +1,5 @@
 use Rattle.std.proofs.Common.{◌+◌, ap, ◌∙◌}
-use Rattle.replay_core.specs.Reports.{is_image}
+use Rattle.report_text.specs.Reports.{is_image}
 use Rattle.report_text.proofs.ReportFacts.{counted_next}
 use Rattle.report_text.proofs.summary.count_images.Goals as goal
 

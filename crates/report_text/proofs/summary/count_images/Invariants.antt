@@ -1,6 +1,6 @@
 use Rattle.std.proofs.Common.{◌≡◌, take}
 use Rattle.std.specs.Prelude.{count_by}
-use Rattle.replay_core.specs.Reports.{is_image}
+use Rattle.report_text.specs.Reports.{is_image}
 use Rattle.report_text.proofs.summary.count_images.Given as goal
 
 -- the images of the first i entries are counted
