@@ -4,7 +4,7 @@ ghost use Rattle.std.specs.Option.{option_to_list};
 ghost use Rattle.std.specs.Prelude.{replicate};
 ghost use Rattle.kind_tables.specs.SceneObjects.{object_in};
 ghost use Rattle.param_stage.specs.Params.{named};
-ghost use Rattle.ref_counts.specs.CountMaps.{counts_at, named_at};
+ghost use Rattle.ref_counts.specs.CountMaps.{counts_at, named_at, public_at};
 ghost use Rattle.seq_model.specs.Life.{times};
 ghost use Rattle.array_objects.specs.Stores.{Fits};
 ghost use Rattle.object_store.specs.Moves.{Moves};
@@ -140,4 +140,14 @@ pub fn unname_object(counts: &mut Counts, params: &Params, block: &Option<Block>
 {
     unname_params(counts, params);
     unname_block(counts, block);
+}
+
+/// The public references to an object; 0 where it has no counts.
+pub fn public_of(counts: &Counts, h: Handle) -> u64
+    ensures { result ≡ public_at counts.now h }
+{
+    match counts.counts(h) {
+        Some((public, _)) => public,
+        None => 0,
+    }
 }

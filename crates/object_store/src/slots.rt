@@ -94,6 +94,24 @@ impl Slot {
         self.shows
     }
 
+    pub fn channels(&self) -> &[(Channel, u64)]
+        ensures { result.now ≡ self.now.channels }
+    {
+        &self.channels
+    }
+
+    pub fn loans(&self) -> &[ParameterLoan]
+        ensures { result.now ≡ self.now.loans }
+    {
+        &self.loans
+    }
+
+    pub fn holds(&self) -> u64
+        ensures { result ≡ self.now.holds }
+    {
+        self.holds
+    }
+
     pub fn params(&self) -> &Params
         ensures { result.now ≡ self.now.params }
     {

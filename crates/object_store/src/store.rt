@@ -4,7 +4,7 @@ ghost use Rattle.std.specs.Prelude.{◌≡◌, ◌==◌, ◌∷◌, ◌++◌, �
 ghost use Rattle.std.specs.BTreeMap.{is_at};
 ghost use Rattle.std.specs.Map.{set_value};
 ghost use Rattle.std.specs.Ordering.{nat_cmp};
-ghost use Rattle.std.specs.Option.{MatchOption, option_and_then, option_map, option_map_or};
+ghost use Rattle.std.specs.Option.{MatchOption, is_some, option_and_then, option_map, option_map_or};
 ghost use Rattle.kind_tables.specs.SceneObjects.{object_in, value_named, with_value, without_value};
 ghost use Rattle.seq_model.specs.State.{Empty, array_loan, changed_at, empty, object_at, with_object};
 ghost use Rattle.seq_model.specs.Steps.{change_array, commit, discard, end_parameter_loan, fresh, holding, lend_parameter, lent, map_channel, set_phase, set_staged, unmap_channel};
@@ -13,7 +13,7 @@ ghost use Rattle.dev_types.specs.declared.data_types.DataType.TheVariants as ty;
 ghost use Rattle.dev_types.specs.declared.values.Value.TheVariants as value;
 ghost use Rattle.scene_read.specs.Reading.{lent as lent_block};
 
-use crate::account::{account, unname_object, unname_times};
+use crate::account::{account, public_of, unname_object, unname_times};
 use crate::contents::{bytes_at, elements_len, name_content, taken_back, unname_content};
 use crate::reslotting::{
     end_loan_at, hold_at, lend_at, map_channel_at, show_at, unhold_at, unmap_channel_at,
@@ -56,7 +56,7 @@ impl Store {
     ghost use Rattle.array_objects.specs.Stores.{Fits};
     ghost use Rattle.seq_model.specs.Life.{times};
     ghost use Rattle.seq_model.specs.Refusals.{is_array_loan_out};
-    ghost use Rattle.object_store.specs.Parts.{array_of, block_of, memory_in, memory_of, named_in_block, named_with};
+    ghost use Rattle.object_store.specs.Parts.{array_of, at, block_of, memory_in, memory_of, named_in_block, named_with};
     ghost use Rattle.object_store.specs.Gathers.{IsLeft, buried};
     ghost use Rattle.seq_model.proofs.Ranked.{IsRanked};
 
@@ -81,6 +81,55 @@ impl Store {
         ensures { result ≡ option_map (λ o. o.kind) (object_at self.now.state h) }
     {
         Some(self.slots.get(h)?.kind())
+    }
+
+    /// The handle of the next object.
+    pub fn next(&self) -> Handle
+        ensures { result ≡ self.now.state.next }
+    {
+        self.slots.next()
+    }
+
+    /// The public references to an object; `None` exactly where there is no such object.
+    pub fn public(&self, h: Handle) -> Option<u64>
+        ensures value { result ≡ at h self.now.public }
+        ensures there { is_some result ≡ is_some (object_at self.now.state h) }
+    {
+        if !is_there(&self.slots, h) {
+            return None;
+        }
+        Some(public_of(&self.counts, h))
+    }
+
+    /// How many flights hold an object.
+    pub fn holds(&self, h: Handle) -> u64
+        ensures { result ≡ number_at self.now.holds h }
+    {
+        match self.slots.get(h) {
+            Some(slot) => slot.holds(),
+            None => 0,
+        }
+    }
+
+    /// The tickets of the flights that were stopped and have not left.
+    pub fn stopped(&self) -> &[u64]
+        ensures { result.now ≡ self.now.state.stopped }
+    {
+        self.stopped.tickets()
+    }
+
+    /// The channels of a frame that are mapped, each with the number of its loan; `None` exactly where there is no such object.
+    pub fn channels(&self, h: Handle) -> Option<&[(Channel, u64)]>
+        ensures { option_map (λ c. c.now) result ≡ option_map (λ o. o.channels) (object_at self.now.state h) }
+    {
+        Some(self.slots.get(h)?.channels())
+    }
+
+    /// The arrays that are written for parameters of an object; `None` exactly where there is no such object.
+    pub fn parameter_loans(&self, h: Handle) -> Option<&[ParameterLoan]>
+        ensures { option_map (λ l. l.now) result ≡ option_map (λ o. o.parameter_loans) (object_at self.now.state h) }
+    {
+        Some(self.slots.get(h)?.loans())
     }
 
     /// The committed value of a parameter of an object, if there is one.
