@@ -480,6 +480,43 @@ impl Store {
         Ok(self.slots.insert(Slot::new(alloc, Kind::Array(ty))))
     }
 
+    /// The array that is written under a number for a parameter of an object, which is there, comes back: it is a new array with this
+    /// block, for which there is room, and the staged value of the parameter, and no public reference to it is given out.
+    ///
+    /// # Errors
+    /// `NoMemory`; the block comes back, and all is as it was.
+    pub fn take_in(
+        &mut self,
+        alloc: Global,
+        h: Handle,
+        name: &Name,
+        number: u64,
+        block: Block,
+    ) -> Result<Handle, (NoMemory, Block)>
+        requires room { self.old.ready ≡ true }
+        requires fits { Fits block }
+        requires short { block.count ≤ 2 ^ 28 }
+        requires there { IsSome (object_at self.old.state h) }
+        requires named { (k : ℕ) → 0 < times k (named_in_block (Some block)) → IsSome (object_at self.old.state k) }
+        ensures handle { IfOk result (λ made. made ≡ self.old.state.next) }
+        ensures store { OnOk result (self.new ≡ record {
+          state = with_object (array_of block) (changed_at h (set_staged (with_value name.now (value.Object ty.Array1D self.old.state.next)))
+              (changed_at h (end_parameter_loan number) self.old.state));
+          public = self.old.public ++ (self.old.state.next, 0) ∷ [];
+          holds = self.old.holds ++ (self.old.state.next, 0) ∷ [];
+          ready = false;
+          places = self.old.places;
+        }) }
+        ensures returned { IfErr result (λ e. e.1 ≡ block) }
+        ensures err { OnErr result (self.new ≡ self.old) }
+    {
+        let _slots = &self.slots;
+        let made = self.stage_array(alloc, h, name, block)?;
+        self.end_parameter_loan(h, number);
+        self.release(made);
+        Ok(made)
+    }
+
     /// One flight more holds an object, which is there.
     pub fn hold(&mut self, h: Handle)
         requires there { IsSome (object_at self.old.state h) }
