@@ -1,104 +1,59 @@
-//! Why a call is refused.
-ghost use Rattle.std.specs.Prelude.{◌≡◌, ◌∷◌, ◌++◌, [], IfOk, not};
-ghost use Rattle.std.specs.Bool.{then_some};
-ghost use Rattle.dev_types.specs.declared.data_types.DataType.TheVariants as ty;
-ghost use Rattle.dev_types.specs.declared.refusals.Refused.TheVariants.{NotMapped};
-ghost use Rattle.seq_model.specs.Refusals.{array_mapped, first_of, no_picture, own_of_type, phase_at, refusal, some_channel_mapped};
+//! Why a call is refused, what it is answered, and as what it is entered.
+ghost use Rattle.std.specs.Prelude.{◌≡◌, IfErr, IfOk, IsSome, Some};
+ghost use Rattle.seq_model.specs.Answers.{answer};
+ghost use Rattle.seq_model.specs.Contents.{entered};
+ghost use Rattle.seq_model.specs.Refusals.{refusal};
+ghost use Rattle.seq_model.specs.declared.calls.Call.TheVariants.{MapFrame};
 
-use crate::creations::refusal_of_array;
-use crate::frames::{no_picture, refusal_of_map_frame, refusal_of_render, some_channel_mapped};
-use crate::queries::{refusal_of_info, refusal_of_kind, refusal_of_query, refusal_of_subtypes};
-use crate::refusals::{array_mapped, refusal_of_map_parameter, refusal_of_set};
-use dev_types::{DataType, Handle, NoMemory, Refused};
-use plain_journal::record::{Record, first_of};
-use seq_model::Call;
+use crate::asked::Asked;
+use crate::pictures::mapped;
+use call_answers::{answers, contents, frames, replies};
+use dev_types::{Channel, Handle, NoMemory, Refused};
+use plain_journal::record::Record;
+use seq_model::{Call, Reply};
 use std::alloc::Global;
 
-/// `NotMapped` where a loan is not out.
-fn unless_out(is_out: bool) -> Option<Refused>
-    ensures { result ≡ then_some (not is_out) NotMapped }
-{
-    (!is_out).then_some(Refused::NotMapped)
-}
-
-/// Why an array is not mapped (ANARI 1.0 Specification, mapping arrays).
-fn refusal_of_map_array(past: &Record, h: Handle) -> Option<Refused>
-    ensures { result ≡ first_of (own_of_type past.now h ty.Array1D ++ array_mapped past.now h ∷ []) }
-{
-    first_of(&[
-        past.dead(h),
-        past.not_held(h),
-        past.wrong_kind(h, DataType::Array1D),
-        array_mapped(past, h),
-    ])
-}
-
-/// Why it is not told whether a frame is ready (ANARI 1.0 Specification, rendering frames).
-fn refusal_of_ready(past: &Record, h: Handle) -> Option<Refused>
-    ensures { result ≡ first_of (own_of_type past.now h ty.Frame ++ no_picture (phase_at past.now h) ∷ []) }
-{
-    first_of(&[
-        past.dead(h),
-        past.not_held(h),
-        past.wrong_kind(h, DataType::Frame),
-        no_picture(past, h),
-    ])
-}
-
-/// Why a frame is not discarded.
-fn refusal_of_discard(past: &Record, h: Handle) -> Option<Refused>
-    ensures { result ≡ first_of (own_of_type past.now h ty.Frame ++ some_channel_mapped past.now h ∷ []) }
-{
-    first_of(&[
-        past.dead(h),
-        past.not_held(h),
-        past.wrong_kind(h, DataType::Frame),
-        some_channel_mapped(past, h),
-    ])
-}
-
-/// Why a call is refused; `None` exactly where no refusal applies to it. The only error is want of memory.
-#[tactic(auto, unfolding(seq_model::specs::Refusals::refusal, seq_model::specs::Refusals::refusals_of))]
+/// Why a call is refused; `None` exactly where no refusal applies to it. The only error is want of
+/// memory.
 pub fn refusal(past: &Record, alloc: Global, call: &Call) -> Result<Option<Refused>, NoMemory>
     ensures { IfOk result (λ found. found ≡ refusal past.now call.now) }
 {
-    let stage = past.stage();
-    Ok(match call {
-        Call::NewObject { ty, subtype } => refusal_of_kind(*ty, subtype),
-        Call::NewArray {
-            elem,
-            count,
-            stride,
-            origin,
-            bytes,
-        } => refusal_of_array(past, alloc, *elem, *count, *stride, *origin, bytes)?,
-        Call::Retain { h } | Call::Release { h } => past.own(*h),
-        Call::SetParameter { h, name, value } => refusal_of_set(past, *h, name, value),
-        Call::UnsetParameter { h, .. } | Call::UnsetAll { h } | Call::Commit { h } => past.own(*h),
-        Call::MapArray { h } => refusal_of_map_array(past, *h),
-        Call::UnmapArray { h, number, bytes } => {
-            unless_out(stage.is_array_loan_out(*h, *number, bytes.as_slice().len()))
-        }
-        Call::MapParameterArray {
-            h,
-            name,
-            elem,
-            count,
-        } => refusal_of_map_parameter(past, *h, name, *elem, *count),
-        Call::UnmapParameterArray {
-            h,
-            name,
-            number,
-            bytes,
-        } => unless_out(stage.is_parameter_loan_out(*h, name, *number, bytes.as_slice().len())),
-        Call::RenderFrame { h } => refusal_of_render(past, alloc, *h)?,
-        Call::FrameReady { h, .. } => refusal_of_ready(past, *h),
-        Call::DiscardFrame { h } => refusal_of_discard(past, *h),
-        Call::MapFrame { h, channel } => refusal_of_map_frame(past, *h, *channel),
-        Call::UnmapFrame { h, number } => unless_out(stage.is_channel_out(*h, *number)),
-        Call::GetProperty { h, name } => refusal_of_query(past, alloc, *h, name)?,
-        Call::Subtypes { ty } => refusal_of_subtypes(*ty),
-        Call::ObjectInfo { ty, subtype } => refusal_of_kind(*ty, subtype),
-        Call::ParameterInfo { ty, subtype, name } => refusal_of_info(*ty, subtype, name),
-    })
+    answers::refusal(&Asked { record: past }, alloc, call)
+}
+
+/// A call as it is entered: what an unmap brings names only what is there. The only error is want of
+/// memory, and hands the call back unchanged.
+pub fn entered(past: &Record, alloc: Global, call: Call) -> Result<Call, (NoMemory, Call)>
+    ensures ok { IfOk result (λ made. made ≡ entered past.now call) }
+    ensures err { IfErr result (λ refused. refused.1 ≡ call) }
+{
+    contents::entered(&Asked { record: past }, alloc, call)
+}
+
+/// The reply to a call that maps a channel of a frame. The only error is want of memory.
+#[tactic(auto, unfolding(
+    seq_model::specs::Answers::answer,
+    seq_model::specs::Refusals::refusal,
+    seq_model::specs::Refusals::refusals_of
+))]
+fn mapping(past: &Record, alloc: Global, h: Handle, channel: Channel) -> Result<Reply, NoMemory>
+    requires { IsSome (answer past.now (MapFrame h channel)) }
+    ensures { IfOk result (λ reply. answer past.now (MapFrame h channel) ≡ Some reply) }
+{
+    match frames::refusal_of_map_frame(&Asked { record: past }, h, channel) {
+        Some(refused) => Ok(Reply::Denied(refused)),
+        None => mapped(past, alloc, h, channel),
+    }
+}
+
+/// The reply to a call, where no tile of a flight was seen finished yet. The call may not wait for a
+/// flight. The only error is want of memory.
+pub fn answer(past: &Record, alloc: Global, call: &Call) -> Result<Reply, NoMemory>
+    requires { IsSome (answer past.now call.now) }
+    ensures { IfOk result (λ reply. answer past.now call.now ≡ Some reply) }
+{
+    match call {
+        Call::MapFrame { h, channel } => mapping(past, alloc, *h, *channel),
+        _ => replies::answer(&Asked { record: past }, alloc, call),
+    }
 }

@@ -2,13 +2,12 @@
 ghost use Rattle.std.specs.Prelude.{◌≡◌, ◌≤◌, ◌++◌, IfOk, IfErr, IfSome, IsSome, None, OnErr, OnOk, Some, length, option_copied, true};
 ghost use Rattle.std.specs.Option.{option_map};
 ghost use Rattle.dev_types.specs.Blocks.{FitsBlock};
-ghost use Rattle.plain_answers.specs.Waiting.{waited_flight};
-ghost use Rattle.plain_journal.specs.Endings.{ended, reply_to};
-ghost use Rattle.plain_objects.specs.Named.{block_of};
+ghost use Rattle.call_answers.specs.Named.{block_of};
 ghost use Rattle.plain_device.specs.Views.{client_of, past_of, last_reply, content_at, reply_in};
 ghost use Rattle.seq_model.specs.Answers.{answer};
 ghost use Rattle.seq_model.specs.Builds.{builds};
 ghost use Rattle.seq_model.specs.Contents.{entered};
+ghost use Rattle.seq_model.specs.Endings.{ended, reply_to, waited_flight};
 ghost use Rattle.seq_model.specs.Legal.{Legal, is_content_sound, is_flying};
 ghost use Rattle.seq_model.specs.Life.{has};
 ghost use Rattle.seq_model.specs.Refusals.{phase_at};
@@ -20,7 +19,7 @@ ghost use Rattle.seq_model.specs.declared.calls.Entry.TheVariants.{Called, Finis
 use crate::steps::step;
 use byte_view::Strided;
 use dev_types::{Bytes, Client, Handle, NoMemory};
-use plain_answers::contents::entered;
+use plain_answers::answers::entered;
 use plain_journal::record::Record;
 use plain_objects::objects::Shows;
 use seq_model::{Call, Entry, Journal, Reply};

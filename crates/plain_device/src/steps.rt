@@ -1,7 +1,7 @@
 //! One call more: it is answered, and entered with its reply.
 ghost use Rattle.std.specs.Prelude.{◌≡◌, ◌≤◌, ◌++◌, IfErr, IsSome, ℕ, OnErr, OnOk, length, true};
-ghost use Rattle.plain_journal.specs.Endings.{reply_to};
-ghost use Rattle.plain_journal.specs.Open.{IsOpen};
+ghost use Rattle.seq_model.specs.Endings.{reply_to};
+ghost use Rattle.past_laws.specs.Open.{IsOpen};
 ghost use Rattle.seq_model.specs.Answers.{answer};
 ghost use Rattle.seq_model.specs.Histories.{rendered};
 ghost use Rattle.seq_model.specs.Legal.{is_content_sound};
@@ -10,7 +10,7 @@ ghost use Rattle.seq_model.specs.Told.{told_by};
 ghost use Rattle.seq_model.specs.declared.calls.Entry.TheVariants.{Called};
 
 use dev_types::{Client, Handle, NoMemory};
-use plain_answers::replies::answer;
+use plain_answers::answers::answer;
 use plain_journal::record::Record;
 use seq_model::{Call, Reply};
 use std::alloc::Global;

@@ -10,7 +10,7 @@ use Rattle.seq_model.specs.Steps.{after, start}
 use Rattle.plain_objects.specs.Counts.{count_at}
 use Rattle.plain_journal.specs.Kept.{KnowsRenders}
 use Rattle.plain_journal.specs.Whole.{IsWhole, past_in}
-use Rattle.plain_journal.specs.Worlds.{KnowsWorlds}
+use Rattle.past_laws.specs.Worlds.{KnowsWorlds}
 use Rattle.plain_journal.specs.declared.books.Books.{Books}
 
 start_is_after : start ≡ after []

@@ -15,12 +15,14 @@ use Rattle.seq_model.specs.State.{flights}
 use Rattle.seq_model.specs.Steps.{Past, after, next_place, step}
 use Rattle.seq_model.specs.declared.calls.Entry.{Entry}
 use Rattle.seq_model.specs.declared.calls.Entry.TheVariants.{Left, Closed}
-use Rattle.plain_journal.proofs.FlightFacts.{flights_have, flights_without, no_ticket_zero}
-use Rattle.plain_journal.proofs.Legality.{follow_more, open_lets, unseen_more}
-use Rattle.plain_journal.proofs.Places.{range_more}
-use Rattle.plain_journal.specs.Endings.{ended}
+use Rattle.past_laws.proofs.FlightFacts.{flights_have, flights_without, no_ticket_zero}
+use Rattle.plain_journal.proofs.Legality.{unseen_more}
+use Rattle.past_laws.proofs.OpenFacts.{follow_more, open_lets}
+use Rattle.past_laws.proofs.Places.{range_more}
+use Rattle.seq_model.specs.Endings.{ended}
 use Rattle.plain_journal.specs.Leaving.{IsEnding, first_flights}
-use Rattle.plain_journal.specs.Open.{IsOpen, IsUnseen}
+use Rattle.plain_journal.specs.Unseen.{IsUnseen}
+use Rattle.past_laws.specs.Open.{IsOpen}
 
 -- before any of them left
 pub ending_start : (past : Past) → past ≡ after past.seen → IsUnseen past.seen → IsOpen past.seen → IsEnding past past 1

@@ -15,11 +15,11 @@ use Rattle.seq_model.specs.declared.calls.Entry.{Entry}
 use Rattle.seq_model.specs.declared.calls.Entry.TheVariants.{Closed}
 use Rattle.plain_journal.proofs.Closings.{seen_more}
 use Rattle.plain_objects.proofs.Ended.{rises}
-use Rattle.plain_journal.proofs.FlightFacts.{flights_have}
+use Rattle.past_laws.proofs.FlightFacts.{flights_have}
 use Rattle.plain_objects.proofs.Turns.{from, from_next, here}
-use Rattle.plain_journal.proofs.WorldFacts.{knows_still}
+use Rattle.past_laws.proofs.WorldFacts.{knows_still}
 use Rattle.plain_objects.specs.Sweeping.{is_marked}
-use Rattle.plain_journal.specs.Worlds.{KnowsWorlds, Worlds}
+use Rattle.past_laws.specs.Worlds.{KnowsWorlds, Worlds}
 
 -- a test of entries in turn: the one at a handle, or one of those behind it
 pub any_turn : (p : ℕ × Object → Bool) (h next : ℕ) (es : List (ℕ × Object)) (first : Bool) → RiseWithin 1 next es → first ≡ list_any p (here h es) →

@@ -11,10 +11,12 @@ use Rattle.seq_model.specs.declared.calls.Call.{Call}
 use Rattle.seq_model.specs.declared.calls.Entry.TheVariants.{Called, Finished, Left}
 use Rattle.seq_model.specs.declared.calls.Reply.{Reply}
 use Rattle.plain_journal.proofs.Closings.{seen_more}
-use Rattle.plain_journal.proofs.Legality.{called_is_open, finished_is_legal}
+use Rattle.plain_journal.proofs.Legality.{finished_is_legal}
+use Rattle.past_laws.proofs.OpenFacts.{called_is_open}
 use Rattle.plain_journal.proofs.StepFacts.{finish_is_note, leave_is_note, note_stepped, was_unseen}
 use Rattle.plain_journal.specs.Booked.{IsMarked, IsNoted}
-use Rattle.plain_journal.specs.Open.{IsOpen, IsUnseen}
+use Rattle.plain_journal.specs.Unseen.{IsUnseen}
+use Rattle.past_laws.specs.Open.{IsOpen}
 use Rattle.plain_journal.specs.Whole.{IsStepped, IsWhole, changed_in_past, past_in, swept_by}
 use Rattle.plain_journal.specs.declared.books.Books.{Books}
 

@@ -12,7 +12,7 @@ use Rattle.seq_model.specs.Refusals.{refusal}
 use Rattle.seq_model.specs.State.{scene_objects}
 use Rattle.seq_model.specs.Steps.{Past, after}
 use Rattle.seq_model.specs.declared.calls.Call.TheVariants.{RenderFrame}
-use Rattle.plain_journal.proofs.GrantedScenes.{granted_scene_within}
+use Rattle.past_laws.proofs.GrantedScenes.{granted_scene_within}
 
 -- the handles of a walk, by where its visits stand
 pub handles_are_visited : (visits : List Visit) → map (λ v. v.1) (starts_of visits) ≡ visited visits

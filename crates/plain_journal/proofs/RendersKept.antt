@@ -19,8 +19,8 @@ use Rattle.seq_model.specs.State.{State, object_at, scene_objects}
 use Rattle.seq_model.specs.Steps.{Past, after}
 use Rattle.seq_model.specs.declared.calls.Entry.{Entry}
 use Rattle.plain_journal.specs.Kept.{KnowsRenders, Shows, render_with}
-use Rattle.plain_journal.specs.Prepared.{AreAsked}
-use Rattle.plain_journal.specs.Worlds.{render_of}
+use Rattle.past_laws.specs.Prepared.{AreAsked}
+use Rattle.past_laws.specs.Worlds.{render_of}
 use Rattle.plain_journal.specs.declared.renders.Render.{Render}
 
 -- the scene of a frame, and whether it asks for a channel, in a state

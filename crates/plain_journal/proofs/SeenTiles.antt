@@ -24,13 +24,15 @@ use Rattle.kind_tables.specs.declared.kinds.Kind.{Kind}
 use Rattle.kind_tables.specs.declared.kinds.Kind.TheVariants.{FrameDefault, WorldDefault}
 use Rattle.seq_model.specs.Answers.{IsLike, answer, granted, mapped_picture, property_of, readiness}
 use Rattle.seq_model.specs.Pictures.{tiles_at}
-use Rattle.seq_model.specs.Refusals.{bad_elements, dead, first_of, given_handles, in_flight, is_bad_shape, no_channel, no_picture, not_held, object_of_value, own_of_type, phase_at, refusal, refusal_of_info, refusal_of_property, refusals_of, some_channel_mapped, this_channel_mapped, walk_at, wrong_kind, wrong_value}
+use Rattle.seq_model.specs.Refusals.{bad_elements, dead, first_of, given_handles, in_flight, is_bad_shape, no_channel, no_picture, not_held, object_of_value, own_of_type, phase_at, refusal, refusal_of_info, refusals_of, some_channel_mapped, this_channel_mapped, walk_at, wrong_kind, wrong_value}
+use Rattle.seq_model.specs.Properties.{refusal_of_property}
 use Rattle.seq_model.specs.State.{Phase, Empty, Flight, Done, object_at, scene_objects}
 use Rattle.seq_model.specs.Steps.{Past}
 use Rattle.seq_model.specs.declared.calls.Call.{Call}
 use Rattle.seq_model.specs.declared.calls.Call.TheVariants.{NewObject, NewArray, Retain, Release, SetParameter, UnsetParameter, UnsetAll, Commit, MapArray, UnmapArray, MapParameterArray, UnmapParameterArray, RenderFrame, FrameReady, DiscardFrame, MapFrame, UnmapFrame, GetProperty, Subtypes, ObjectInfo, ParameterInfo}
 use Rattle.seq_model.specs.declared.calls.Reply.{Reply}
 use Rattle.seq_model.specs.declared.calls.Reply.TheVariants as reply
+use Rattle.past_laws.specs.Rendered.{HaveTiles}
 
 -- a reply that tells of a flight saw none of its tiles, and there are some
 abbrev pub SeesNone : Reply → Type 0
@@ -44,10 +46,6 @@ like_itself (reply.NotReady given of) none = (given, subst (λ n. n < of) (sym n
 like_itself (reply.Denied (InFlight given of)) none = (given, subst (λ n. n < of) (sym none.0) none.1, refl)
 like_itself (reply.Denied _) none = refl
 like_itself _ none = refl
-
--- every flight of a past has tiles
-abbrev pub HaveTiles : Past → Type 0
-HaveTiles past = (h t : ℕ) → phase_at past h ≡ Flight t → 0 < tiles_at past.seen t
 
 -- such a refusal
 abbrev SeenIn : Option Refused → Type 0
@@ -148,7 +146,7 @@ of_no_channel past Empty c = tt
 of_no_channel past (Flight t) c = tt
 of_no_channel past (Done t) c = of_then _ NoChannel tt
 
-of_property : (past : Past) (h : ℕ) (kind : Kind) (name : List ℕ) → SeenIn (refusal_of_property past h kind name)
+of_property : (past : Past) (h : ℕ) (kind : Kind) (name : List ℕ) → SeenIn (refusal_of_property (scene_objects past.state) h kind name)
 of_property past h WorldDefault name = by (bytes_eq name (codes "bounds"))
   where
     by : (is : Bool) → SeenIn (cond is (walk_refusal (scene_objects past.state) (walk_at past h)) (Some NoSuchName))
@@ -198,7 +196,7 @@ of_call past (MapFrame h c) tiles =
 of_call past (UnmapFrame h number) tiles = (of_then _ NotMapped tt, tt)
 of_call past (GetProperty zero name) tiles = (of_then _ NoSuchName tt, tt)
 of_call past (GetProperty (suc h) name) tiles =
-    (of_dead past (suc h), (of_not_held past (suc h), (of_both (λ o. refusal_of_property past (suc h) o.kind name) (λ o. of_property past (suc h) o.kind name) (object_at past.state (suc h)), tt)))
+    (of_dead past (suc h), (of_not_held past (suc h), (of_both (λ o. refusal_of_property (scene_objects past.state) (suc h) o.kind name) (λ o. of_property past (suc h) o.kind name) (object_at past.state (suc h)), tt)))
 of_call past (Subtypes t) tiles = (of_then _ NoSuchName tt, tt)
 of_call past (ObjectInfo t subtype) tiles = (of_then _ BadSubtype tt, tt)
 of_call past (ParameterInfo t subtype name) tiles = (of_info (kind_of t subtype) name, tt)

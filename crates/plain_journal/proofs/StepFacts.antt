@@ -19,30 +19,33 @@ use Rattle.seq_model.specs.declared.calls.Entry.TheVariants.{Called, Finished, L
 use Rattle.seq_model.specs.declared.calls.Reply.{Reply}
 use Rattle.seq_model.specs.declared.calls.Reply.TheVariants as reply
 use Rattle.picture_model.specs.Limits.{IsSceneWithin}
-use Rattle.plain_journal.proofs.Entering.{effect_stops, few_flights, next_moves, countable, few_keys}
+use Rattle.plain_journal.proofs.Entering.{countable}
+use Rattle.past_laws.proofs.Sizes.{effect_stops, few_flights, next_moves, few_keys}
 use Rattle.plain_journal.proofs.Legality.{called_is_legal}
 use Rattle.plain_journal.proofs.RendersKept.{other_keeps_renders, rendered_is_known}
 use Rattle.plain_journal.proofs.WholeFacts.{past_steps, whole_next}
 use Rattle.plain_journal.specs.Booked.{IsCalled, IsMarked, IsSame, IsRendered, IsNoted, HasSpace}
-use Rattle.plain_journal.specs.Counting.{handles_made, IsCountable}
+use Rattle.plain_journal.specs.Counting.{IsCountable}
+use Rattle.past_laws.specs.Making.{handles_made}
 use Rattle.plain_objects.specs.Counts.{count_at}
 use Rattle.plain_journal.specs.Kept.{KnowsRenders, Shows, render_with}
-use Rattle.plain_journal.specs.Open.{IsOpen, IsUnseen}
+use Rattle.plain_journal.specs.Unseen.{IsUnseen}
+use Rattle.past_laws.specs.Open.{IsOpen}
 use Rattle.plain_journal.specs.Uses.{FitsWorld}
 use Rattle.plain_journal.specs.Whole.{IsEntered, IsStepped, IsWhole, changed_in_past, past_in, swept_by}
-use Rattle.plain_journal.specs.Worlds.{KnowsWorlds, render_of, world_of}
+use Rattle.past_laws.specs.Worlds.{KnowsWorlds, render_of, world_of}
 use Rattle.plain_journal.specs.declared.books.Books.{Books}
 use Rattle.plain_journal.specs.declared.renders.Render.{Render}
 use Rattle.seq_model.specs.Builds.{is_touching}
-use Rattle.plain_journal.proofs.FlightFacts.{finished_frees, left_frees}
-use Rattle.plain_journal.proofs.WorldFacts.{knows_still}
+use Rattle.past_laws.proofs.FlightFacts.{finished_frees, left_frees}
+use Rattle.past_laws.proofs.WorldFacts.{knows_still}
 use Rattle.plain_journal.specs.Ready.{IsReady}
-use Rattle.plain_journal.specs.Prepared.{reach_of, world_reach}
+use Rattle.past_laws.specs.Prepared.{reach_of, world_reach}
 use Rattle.plain_journal.specs.declared.prepared.Prepared.{Prepared}
 use Rattle.std.specs.Map.{keys_of}
 use Rattle.dev_types.specs.declared.refusals.Refused.{Refused}
 use Rattle.seq_model.specs.Refusals.{refusal}
-use Rattle.plain_journal.specs.Endings.{reply_to}
+use Rattle.seq_model.specs.Endings.{reply_to}
 
 -- what is known of a device is unseen, and its renders are within the limits
 pub was_unseen : (stage : State) (old : Books) → IsWhole stage old → IsUnseen old.journal.items

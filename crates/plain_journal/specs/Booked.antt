@@ -1,19 +1,18 @@
 -- What a device keeps beside its objects, and room for more.
 use Rattle.std.specs.Prelude.{◌≡◌, ℕ, ◌+◌, ◌-◌, ◌*◌, ◌^◌, ◌<◌, ◌≤◌, ◌++◌, ◌∷◌, [], None, cond, length, vec_capacity}
 use Rattle.std.specs.Option.{option_map}
-use Rattle.seq_model.specs.Histories.{is_making, is_releasing, is_retaining}
+use Rattle.seq_model.specs.Histories.{is_making, is_releasing, is_retaining, History}
 use Rattle.seq_model.specs.Steps.{after}
 use Rattle.seq_model.specs.declared.calls.Call.{Call}
 use Rattle.seq_model.specs.declared.calls.Entry.{Entry}
 use Rattle.seq_model.specs.declared.calls.Entry.TheVariants.{Called}
 use Rattle.seq_model.specs.declared.calls.Reply.{Reply}
-use Rattle.plain_journal.specs.Counting.{handles_made}
+use Rattle.past_laws.specs.Making.{handles_made}
 use Rattle.plain_objects.specs.Counts.{count_at}
-use Rattle.plain_journal.specs.Prepared.{world_reach}
+use Rattle.past_laws.specs.Prepared.{world_reach}
 use Rattle.plain_journal.specs.Uses.{FitsWorld}
 use Rattle.plain_journal.specs.declared.prepared.Prepared.{Prepared}
-use Rattle.seq_model.specs.Histories.{History}
-use Rattle.plain_journal.specs.Worlds.{HasRoom, KnowsWorlds, render_of}
+use Rattle.past_laws.specs.Worlds.{HasRoom, KnowsWorlds, render_of}
 use Rattle.plain_journal.specs.declared.books.Books.{Books}
 
 -- there is room for one more entry, for a render, and for a handle

@@ -22,10 +22,3 @@ IsCountable counts capacity (UnmapParameterArray _ _ _ _) (reply.Made made) = Ha
 IsCountable counts capacity (Retain h) reply.Done = IsRetainable counts h
 IsCountable counts capacity (Release h) reply.Done = 1 ≤ count_at counts h
 IsCountable counts capacity _ _ = Unit {0}
-
--- how many handles a call that was answered so makes
-abbrev pub handles_made : Call → Reply → ℕ
-handles_made (NewObject _ _) (reply.Made _) = 1
-handles_made (NewArray _ _ _ _ _) (reply.Made _) = 1
-handles_made (UnmapParameterArray _ _ _ _) (reply.Made _) = 1
-handles_made _ _ = 0

@@ -1,30 +1,17 @@
 -- What a record knows beside its past.
 use Rattle.std.specs.Prelude.{◌≡◌, ℕ, ◌+◌, ◌==◌, ◌≤◌, false, List, All, Option, Some, length, slice_index_or}
 use Rattle.std.specs.List.{find}
-use Rattle.std.specs.Option.{IsSomeAnd, MatchOption}
+use Rattle.std.specs.Option.{IsSomeAnd}
 use Rattle.dev_types.specs.declared.handles.Channel.{Channel}
-use Rattle.dev_types.specs.declared.handles.Channel.TheVariants as channel
 use Rattle.picture_model.specs.Limits.{IsSceneWithin}
 use Rattle.seq_model.specs.Extensions.{readings_of}
 use Rattle.seq_model.specs.Histories.{History, frame_at, public}
 use Rattle.seq_model.specs.Legal.{Legal}
 use Rattle.seq_model.specs.Pictures.{has_channel, scene_at}
-use Rattle.seq_model.specs.State.{Phase}
 use Rattle.seq_model.specs.Steps.{Past, after}
-use Rattle.seq_model.specs.Tickets.{ticket_of}
 use Rattle.plain_objects.specs.Counts.{count_at}
+use Rattle.past_laws.specs.Prepared.{place_of_channel}
 use Rattle.plain_journal.specs.declared.renders.Render.{Render}
-
--- what frame h has to show, or waits for, is one of its own renders
-abbrev pub WasRendered : Past → ℕ → Phase → Type 0
-WasRendered past h phase = MatchOption (ticket_of phase) (Unit {0}) (λ t. frame_at past.seen t ≡ Some h)
-
--- the place of a channel among the four
-abbrev pub place_of_channel : Channel → ℕ
-place_of_channel channel.Color = 0
-place_of_channel channel.PrimitiveId = 1
-place_of_channel channel.ObjectId = 2
-place_of_channel channel.InstanceId = 3
 
 -- the render with this ticket
 abbrev pub render_with : ℕ → List Render → Option Render

@@ -8,7 +8,7 @@ use Rattle.seq_model.specs.State.{flights}
 use Rattle.seq_model.specs.Steps.{Past, after, step}
 use Rattle.seq_model.specs.declared.calls.Entry.{Entry}
 use Rattle.seq_model.specs.declared.calls.Entry.TheVariants.{Left}
-use Rattle.plain_journal.specs.Open.{IsUnseen}
+use Rattle.plain_journal.specs.Unseen.{IsUnseen}
 
 -- the flights of a past with one of the first n tickets
 abbrev pub first_flights : Past → ℕ → List ℕ

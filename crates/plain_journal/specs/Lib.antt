@@ -1,11 +1,8 @@
 pub mod Booked
 pub mod Counting
-pub mod Endings
 pub mod Kept
 pub mod Leaving
-pub mod Open
-pub mod Prepared
 pub mod Ready
+pub mod Unseen
 pub mod Uses
 pub mod Whole
-pub mod Worlds

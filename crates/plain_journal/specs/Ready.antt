@@ -4,7 +4,7 @@ use Rattle.std.specs.Option.{option_map}
 use Rattle.kind_tables.specs.Scenes.{scene}
 use Rattle.picture_model.specs.Limits.{IsSceneWithin}
 use Rattle.seq_model.specs.State.{State, scene_objects}
-use Rattle.plain_journal.specs.Prepared.{AreAsked, reach_of, world_reach}
+use Rattle.past_laws.specs.Prepared.{AreAsked, reach_of, world_reach}
 use Rattle.plain_journal.specs.declared.prepared.Prepared.{Prepared}
 
 -- what a render needs is what the state before it says

@@ -6,7 +6,7 @@ use Rattle.seq_model.specs.declared.calls.Call.{Call}
 use Rattle.seq_model.specs.declared.calls.Call.TheVariants.{RenderFrame}
 use Rattle.seq_model.specs.declared.calls.Reply.{Reply}
 use Rattle.seq_model.specs.declared.calls.Reply.TheVariants as reply
-use Rattle.plain_journal.specs.Worlds.{world_of}
+use Rattle.past_laws.specs.Worlds.{world_of}
 
 -- these are all that a walk from the world visits, if there is a world
 abbrev pub IsReach : State → Option ℕ → List ℕ → Type 0

@@ -9,7 +9,7 @@ use Rattle.seq_model.specs.Told.{end_of_object, gone, status_at, told_by}
 use Rattle.seq_model.specs.declared.calls.Entry.{Entry}
 use Rattle.plain_objects.specs.Counts.{count_at}
 use Rattle.plain_journal.specs.Kept.{IsKept, KnowsRenders}
-use Rattle.plain_journal.specs.Worlds.{KnowsWorlds}
+use Rattle.past_laws.specs.Worlds.{KnowsWorlds}
 use Rattle.plain_journal.specs.declared.books.Books.{Books}
 
 -- the past that objects and books tell

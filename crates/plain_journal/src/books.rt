@@ -6,8 +6,8 @@ ghost use Rattle.seq_model.specs.Histories.{History};
 ghost use Rattle.seq_model.specs.Steps.{after};
 ghost use Rattle.seq_model.specs.Told.{end_of_object, gone};
 ghost use Rattle.plain_journal.specs.Counting.{IsCountable};
-ghost use Rattle.plain_journal.specs.Prepared.{world_reach};
-ghost use Rattle.plain_journal.specs.Worlds.{HasRoom, KnowsWorlds, render_of};
+ghost use Rattle.past_laws.specs.Prepared.{world_reach};
+ghost use Rattle.past_laws.specs.Worlds.{HasRoom, KnowsWorlds, render_of};
 ghost use Rattle.plain_journal.specs.Booked.{HasSpace, IsCalled, IsMarked, IsNoted, IsRendered, IsSame};
 ghost use Rattle.plain_journal.specs.Whole.{swept_by};
 

@@ -2,7 +2,8 @@
 ghost use Rattle.std.specs.Prelude.{ℕ, ◌+◌, ◌-◌, ◌≡◌, ◌<◌, ◌≤◌, ◌^◌, ◌==◌, ◌++◌, ◌∷◌, [], cond, length, vec_capacity};
 ghost use Rattle.seq_model.specs.Histories.{is_making, is_releasing, is_retaining};
 ghost use Rattle.seq_model.specs.declared.calls.Entry.TheVariants.{Called};
-ghost use Rattle.plain_journal.specs.Counting.{IsCountable, IsRetainable, handles_made};
+ghost use Rattle.plain_journal.specs.Counting.{IsCountable, IsRetainable};
+ghost use Rattle.past_laws.specs.Making.{handles_made};
 ghost use Rattle.plain_objects.specs.Counts.{count_at};
 
 use dev_types::Handle;

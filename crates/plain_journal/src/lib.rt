@@ -10,7 +10,6 @@ pub mod pictures;
 pub mod prepared;
 pub mod record;
 pub mod renders;
-pub mod scene_laws;
 pub mod steps;
 pub mod telling;
 #[cfg(test)]

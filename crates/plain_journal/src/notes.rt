@@ -6,7 +6,8 @@ ghost use Rattle.seq_model.specs.State.{flights};
 ghost use Rattle.seq_model.specs.Steps.{step};
 ghost use Rattle.seq_model.specs.Told.{told_by};
 ghost use Rattle.seq_model.specs.declared.calls.Entry.TheVariants.{Finished, Left};
-ghost use Rattle.plain_journal.specs.Open.{IsOpen, IsUnseen};
+ghost use Rattle.plain_journal.specs.Unseen.{IsUnseen};
+ghost use Rattle.past_laws.specs.Open.{IsOpen};
 
 use crate::books::sweep_by;
 use crate::record::Record;

@@ -1,6 +1,7 @@
 //! What frames show, and the renders that made it.
 ghost use Rattle.std.specs.Prelude.{◌≡◌, ◌==◌, IsSome, option_copied};
-ghost use Rattle.plain_journal.specs.Kept.{Shows, WasRendered, place_of_channel, render_with};
+ghost use Rattle.plain_journal.specs.Kept.{Shows, render_with};
+ghost use Rattle.past_laws.specs.Rendered.{WasRendered};
 ghost use Rattle.plain_objects.specs.Shown.{phase_of};
 ghost use Rattle.seq_model.specs.Histories.{frame_at};
 ghost use Rattle.seq_model.specs.Pictures.{tiles_at};
@@ -8,7 +9,7 @@ ghost use Rattle.seq_model.specs.Refusals.{phase_at};
 
 use crate::record::Record;
 use crate::renders::Render;
-use dev_types::{Channel, Handle};
+use dev_types::Handle;
 use picture_model::tile_count;
 use plain_objects::objects;
 
@@ -17,18 +18,6 @@ fn render_with(renders: &[Render], ticket: u64) -> Option<&Render>
     ensures { option_copied result ≡ render_with ticket renders.now }
 {
     renders.iter().find(|render| render.ticket == ticket)
-}
-
-/// The place of a channel among the four.
-pub fn place_of_channel(channel: Channel) -> usize
-    ensures { result ≡ place_of_channel channel }
-{
-    match channel {
-        Channel::Color => 0,
-        Channel::PrimitiveId => 1,
-        Channel::ObjectId => 2,
-        Channel::InstanceId => 3,
-    }
 }
 
 impl Record {

@@ -10,8 +10,8 @@ ghost use Rattle.scene_read.specs.Starts.{starts_of};
 ghost use Rattle.seq_model.specs.Refusals.{refusal};
 ghost use Rattle.seq_model.specs.State.{object_at, scene_objects};
 ghost use Rattle.seq_model.specs.declared.calls.Call.TheVariants.{RenderFrame};
-ghost use Rattle.plain_journal.specs.Prepared.{AreAsked, asks_for, reach_of, world_reach};
-ghost use Rattle.plain_journal.specs.Worlds.{world_of};
+ghost use Rattle.past_laws.specs.Prepared.{AreAsked, asks_for, reach_of, world_reach};
+ghost use Rattle.past_laws.specs.Worlds.{world_of};
 
 use crate::record::Record;
 use dev_types::{Channel, Handle, Name, NoMemory, Value};

@@ -1,17 +1,15 @@
 //! What happened on a device, and where it stands.
-ghost use Rattle.std.specs.Prelude.{◌≡◌, length, option_copied};
+ghost use Rattle.std.specs.Prelude.{◌≡◌, ◌==◌, not, option_copied};
 ghost use Rattle.plain_objects.specs.Counts.{count_at};
 ghost use Rattle.plain_journal.specs.Kept.{KnowsRenders};
-ghost use Rattle.std.specs.Option.{is_some};
 ghost use Rattle.seq_model.specs.Histories.{public};
 ghost use Rattle.seq_model.specs.Legal.{Legal};
-ghost use Rattle.seq_model.specs.Refusals.{dead, first_of, has_type, not_held, own, own_of_type, wrong_kind};
 ghost use Rattle.seq_model.specs.State.{object_at};
 ghost use Rattle.seq_model.specs.Steps.{after, next_place};
 
 use crate::books::Books;
 use crate::renders::Render;
-use dev_types::{DataType, Handle, Refused};
+use dev_types::Handle;
 use plain_objects::objects::Object;
 use plain_objects::stage::Stage;
 use seq_model::Entry;
@@ -93,49 +91,11 @@ impl Record {
         self.stage.get(h)
     }
 
-    /// `BadHandle` where no object has the handle.
-    pub fn dead(&self, h: Handle) -> Option<Refused>
-        ensures { result ≡ dead self.now h }
+    /// Whether the application holds a public reference to the handle.
+    pub fn is_held(&self, h: Handle) -> bool
+        ensures { result ≡ not (public self.now.seen h == 0) }
     {
-        self.get(h).is_none().then_some(Refused::BadHandle(h))
-    }
-
-    /// `NotHeld` where no public reference to the handle is left.
-    pub fn not_held(&self, h: Handle) -> Option<Refused>
-        ensures { result ≡ not_held self.now h }
-    {
-        (self.public(h) == 0).then_some(Refused::NotHeld(h))
-    }
-
-    /// Whether the handle is that of an object with this type.
-    pub fn has_type(&self, h: Handle, ty: DataType) -> bool
-        ensures { result ≡ has_type self.now h ty }
-    {
-        match self.get(h) {
-            Some(object) => object.kind.data_type().number() == ty.number(),
-            None => false,
-        }
-    }
-
-    /// `WrongKind` where the object has another type.
-    pub fn wrong_kind(&self, h: Handle, ty: DataType) -> Option<Refused>
-        ensures { result ≡ wrong_kind self.now h ty }
-    {
-        (!self.has_type(h, ty)).then_some(Refused::WrongKind(h))
-    }
-
-    /// Why a call on an object is refused: it is not there, or not held.
-    pub fn own(&self, h: Handle) -> Option<Refused>
-        ensures { result ≡ first_of (own self.now h) }
-    {
-        first_of(&[self.dead(h), self.not_held(h)])
-    }
-
-    /// Why a call on an object of a type is refused: it is not there, not held, or of another type.
-    pub fn own_of_type(&self, h: Handle, ty: DataType) -> Option<Refused>
-        ensures { result ≡ first_of (own_of_type self.now h ty) }
-    {
-        first_of(&[self.dead(h), self.not_held(h), self.wrong_kind(h, ty)])
+        self.public(h) != 0
     }
 }
 
@@ -150,16 +110,4 @@ fn count_at(counts: &[u64], h: Handle) -> u64
         Some(count) => *count,
         None => 0,
     }
-}
-
-/// The first of some refusals that applies.
-pub fn first_of(refusals: &[Option<Refused>]) -> Option<Refused>
-    ensures { result ≡ first_of refusals.now }
-{
-    for refusal in refusals {
-        if let Some(refused) = refusal {
-            return Some(refused.copied());
-        }
-    }
-    None
 }

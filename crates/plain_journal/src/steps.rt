@@ -8,8 +8,8 @@ ghost use Rattle.seq_model.specs.Told.{told_by};
 ghost use Rattle.seq_model.specs.declared.calls.Entry.TheVariants.{Called};
 ghost use Rattle.seq_model.specs.declared.calls.Call.TheVariants.{RenderFrame};
 ghost use Rattle.seq_model.specs.declared.calls.Reply.TheVariants as reply;
-ghost use Rattle.plain_journal.specs.Worlds.{render_of};
-ghost use Rattle.plain_journal.specs.Open.{IsOpen};
+ghost use Rattle.past_laws.specs.Worlds.{render_of};
+ghost use Rattle.past_laws.specs.Open.{IsOpen};
 
 use crate::books::{Books, sweep_by};
 use crate::record::Record;

@@ -5,7 +5,7 @@ ghost use Rattle.seq_model.specs.Steps.{after};
 ghost use Rattle.seq_model.specs.declared.calls.Entry.TheVariants.{Called};
 ghost use Rattle.seq_model.specs.declared.calls.Reply.TheVariants as reply;
 ghost use Rattle.plain_journal.specs.Uses.{FitsWorld, ReachesWorld};
-ghost use Rattle.plain_journal.specs.Worlds.{HasRoom, KnowsWorlds, render_of};
+ghost use Rattle.past_laws.specs.Worlds.{HasRoom, KnowsWorlds, render_of};
 
 use crate::worlds::Worlds;
 use dev_types::Handle;

@@ -7,7 +7,7 @@ ghost use Rattle.seq_model.specs.Histories.{History};
 ghost use Rattle.seq_model.specs.State.{scene_objects};
 ghost use Rattle.seq_model.specs.Steps.{after};
 ghost use Rattle.seq_model.specs.declared.calls.Entry.{Entry};
-ghost use Rattle.plain_journal.specs.Worlds.{HasRoom, KnowsWorlds, Touches, render_of, touched_by, use_of, wants_build, world_of};
+ghost use Rattle.past_laws.specs.Worlds.{HasRoom, KnowsWorlds, Touches, render_of, touched_by, use_of, wants_build, world_of};
 
 use dev_types::{Handle, NoMemory};
 use std::alloc::Global;
@@ -32,7 +32,7 @@ struct Use {
 
 impl Model for Use {
     ghost use Rattle.std.specs.Prelude.{ℕ};
-    ghost use Rattle.plain_journal.specs.Worlds.{Use as Known};
+    ghost use Rattle.past_laws.specs.Worlds.{Use as Known};
 
     ghost Value = { ℕ × Known };
 
@@ -41,7 +41,7 @@ impl Model for Use {
 
 impl Model for Worlds {
     ghost use Rattle.std.specs.Prelude.{◌-◌, length, vec_capacity};
-    ghost use Rattle.plain_journal.specs.Worlds.{Worlds as Known};
+    ghost use Rattle.past_laws.specs.Worlds.{Worlds as Known};
 
     ghost Value = { Known };
 

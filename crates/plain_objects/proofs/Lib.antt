@@ -1,7 +1,6 @@
 pub mod Adding
 pub mod Ended
 pub mod Entries
-pub mod NamedFacts
 pub mod Removals
 pub mod Rounds
 pub mod SuitFacts

@@ -8,7 +8,7 @@ ghost use Rattle.dev_types.specs.declared.data_types.DataType.TheVariants as ty;
 ghost use Rattle.seq_model.specs.State.{changed_at, object_at, parameter_loan};
 ghost use Rattle.plain_objects.specs.Shown.{HasLength};
 ghost use Rattle.seq_model.specs.declared.calls.Reply.TheVariants as reply;
-ghost use Rattle.plain_objects.specs.Suits.{IsLoanOf, Suits, parameters_changed, taken_array};
+ghost use Rattle.past_laws.specs.Suits.{IsLoanOf, Suits, parameters_changed, taken_array};
 
 use crate::layouts::needed_length;
 use crate::objects::{Array, Object, ParameterLoan, Shows};

@@ -3,8 +3,8 @@ use Rattle.std.proofs.Common.{ℕ, ◌==◌, ◌≡◌, ◌∙◌, true, false, 
 use Rattle.std.specs.Prelude.{IsSome, cond}
 use Rattle.std.specs.Option.{option_map, option_map_or}
 use Rattle.std.proofs.lemmas.Bool.{eq-eqb}
-use Rattle.plain_answers.proofs.Answering.{answered_now}
-use Rattle.plain_answers.specs.Waiting.{waited_flight}
+use Rattle.past_laws.proofs.Answering.{answered_now}
+use Rattle.seq_model.specs.Endings.{waited_flight}
 use Rattle.replay_core.specs.Solo.{asked_flight, ready_for, with_note}
 use Rattle.seq_model.proofs.Came.{swept_was}
 use Rattle.seq_model.proofs.Handles.{changed, changed_rises, rises, step_state}

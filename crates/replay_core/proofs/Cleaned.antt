@@ -297,10 +297,23 @@ parameter_sound past h number bytes = by (option_and_then (λ (o : Object). para
     by None = refl
     by (Some loan) = cleaned_is_sound past loan.elem loan.count (byte_size loan.elem) bytes (omega arith)
 
+-- either the loan is out, and what is entered was cleaned; or it is not, and nothing is asked of the bytes
+sound_by : (out : List ℕ → Bool) (sound : List ℕ → Bool) (given made : List ℕ) → sound made ≡ true →
+    (not (out (cond (out given) made given)) || sound (cond (out given) made given)) ≡ true
+sound_by out sound given made cleaned = by (out given) refl
+  where
+    by : (is : Bool) → out given ≡ is → (not (out (cond is made given)) || sound (cond is made given)) ≡ true
+    by true is = or_true (not (out made)) (sound made) cleaned
+    by false is = ap (λ t. not t || sound given) is
+
 pub entered_is_sound : (history : History) → Legal history → (call : Call) → is_content_sound (after history) (entered (after history) call) ≡ true
 unfolding entered
 entered_is_sound history legal (UnmapArray h number bytes) =
-    or_true (not (is_array_loan_out (after history).state h number (length (bytes_for_array (after history) h bytes)))) _ (array_sound (after history) h bytes (are_apart history legal h))
+    sound_by (λ bs. is_array_loan_out (after history).state h number (length bs))
+    (λ bs. option_map_or (are_elements_sound (after history)) (content_of_array (after history) h bs) true)
+    bytes (bytes_for_array (after history) h bytes) (array_sound (after history) h bytes (are_apart history legal h))
 entered_is_sound history legal (UnmapParameterArray h name number bytes) =
-    or_true (not (is_parameter_loan_out (after history).state h name number (length (bytes_for_parameter (after history) h number bytes)))) _ (parameter_sound (after history) h number bytes)
+    sound_by (λ bs. is_parameter_loan_out (after history).state h name number (length bs))
+    (λ bs. option_map_or (are_elements_sound (after history)) (content_of_parameter (after history) h number bs) true)
+    bytes (bytes_for_parameter (after history) h number bytes) (parameter_sound (after history) h number bytes)
 entered_is_sound history legal _ = refl

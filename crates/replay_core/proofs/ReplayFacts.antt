@@ -11,7 +11,7 @@ use Rattle.dev_types.specs.DataTypes.{byte_size, is_element_type}
 use Rattle.dev_types.specs.declared.data_types.DataType.{DataType}
 use Rattle.dev_types.specs.declared.notices.Notice.{Notice}
 use Rattle.dev_types.specs.declared.refusals.Refused.{Refused}
-use Rattle.plain_journal.specs.Endings.{reply_to}
+use Rattle.seq_model.specs.Endings.{reply_to}
 use Rattle.plain_device.specs.Views.{last_reply}
 use Rattle.replay_core.proofs.Answered.{nothing_asked, still_answered}
 use Rattle.replay_core.proofs.Cleaned.{entered_is_sound}

@@ -17,7 +17,8 @@ use Rattle.kind_tables.specs.Scenes.{lights_of, primitives_of, scene, scene_by}
 use Rattle.kind_tables.specs.Shapes.{shapes_of}
 use Rattle.kind_tables.specs.WalkRefusals.{fault_of, first_incomplete, first_limit, first_mapped, first_out_of_range, walk_refusal}
 use Rattle.kind_tables.specs.Walks.{below, walk, walk_from}
-use Rattle.seq_model.specs.Answers.{IsAnswer, answer, bounds_of}
+use Rattle.seq_model.specs.Answers.{IsAnswer, answer}
+use Rattle.seq_model.specs.Properties.{bounds_of}
 use Rattle.seq_model.specs.Builds.{builds}
 use Rattle.seq_model.specs.Contents.{cleaned, entered}
 use Rattle.seq_model.specs.Histories.{frame_at, mine, public}

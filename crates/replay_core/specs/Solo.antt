@@ -3,7 +3,7 @@
 use Rattle.std.specs.Prelude.{ℕ, Bool, true, false, List, [], ◌∷◌, ◌++◌, Option, Some, None, fold, if◌then◌else◌}
 use Rattle.std.specs.List.{enumerate_from}
 use Rattle.std.specs.Option.{option_map, option_map_or, option_to_list}
-use Rattle.plain_journal.specs.Endings.{ended, reply_to}
+use Rattle.seq_model.specs.Endings.{ended, reply_to}
 use Rattle.replay_core.specs.Labels.{Meaning, call_of, handle_of, label_of}
 use Rattle.replay_core.specs.Loans.{opens, unmap_of}
 use Rattle.replay_core.specs.declared.bindings.Binding.{Binding}

@@ -11,7 +11,7 @@ ghost use Rattle.seq_model.specs.Steps.{zeros};
 
 use crate::bindings::Labels;
 use dev_types::{Bytes, DataType, Name, NoMemory, Origin, size_of};
-use plain_objects::layouts::is_bad_layout;
+use call_answers::layouts::is_bad_layout;
 use std::alloc::{AllocError, Global};
 use trace_text::ArrayData;
 

@@ -3,7 +3,7 @@
 ghost use Rattle.std.specs.Prelude.{◌≡◌, ◌≤◌, ◌∷◌, ◌++◌, All, Some, [], length, false, IfErr, IfOk, IfSome, IsSome, OnOk, fold, if◌then◌else◌, true};
 ghost use Rattle.std.specs.List.{enumerate_from};
 ghost use Rattle.std.specs.Option.{option_to_list};
-ghost use Rattle.plain_journal.specs.Endings.{ended, reply_to};
+ghost use Rattle.seq_model.specs.Endings.{ended, reply_to};
 ghost use Rattle.plain_device.specs.Views.{client_of, last_reply, past_of};
 ghost use Rattle.replay_core.specs.Labels.{call_of, handle_of};
 ghost use Rattle.replay_core.specs.Loans.{IsRoomy, mapped_content, opens, unmap_by};

@@ -3,7 +3,7 @@ ghost use Rattle.std.specs.Prelude.{◌≡◌, ◌*◌, ◌<◌, ◌≤◌, ◌^
 ghost use Rattle.dev_types.specs.Blocks.{FitsBlock, with_part};
 ghost use Rattle.dev_types.specs.DataTypes.{byte_size, is_element_type};
 ghost use Rattle.dev_types.specs.ValueBytes.{bytes_of, is_well_typed, type_of};
-ghost use Rattle.plain_objects.specs.Named.{block_of};
+ghost use Rattle.call_answers.specs.Named.{block_of};
 ghost use Rattle.replay_core.specs.Loans.{new_content, with_element, with_write, written, written_value};
 ghost use Rattle.replay_core.specs.Views.{meaning_of};
 

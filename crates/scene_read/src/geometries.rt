@@ -18,7 +18,7 @@ use kind_tables::Kind;
 use std::alloc::{AllocError, Global};
 
 /// How many elements an array has.
-pub(crate) fn count_in(content: &Option<Strided<'_>>) -> u64
+pub fn count_in(content: &Option<Strided<'_>>) -> u64
     requires { IsCounted content.now }
     ensures value { result ≡ count_in content.now }
     ensures size { result ≤ 2 ^ 28 }
@@ -127,7 +127,7 @@ pub(crate) fn corners_at(indices: &Option<Strided<'_>>, k: u64) -> Option<[u64; 
 }
 
 /// How many triangles there are.
-pub(crate) fn triangle_count(indices: &Option<Strided<'_>>, positions: &Option<Strided<'_>>) -> u64
+pub fn triangle_count(indices: &Option<Strided<'_>>, positions: &Option<Strided<'_>>) -> u64
     requires indices { IsCounted indices.now }
     requires positions { IsCounted positions.now }
     ensures value { result ≡ triangle_count indices.now positions.now }
@@ -151,7 +151,7 @@ fn number_at(numbers: &Option<[u64; 3]>, i: usize) -> u64
 }
 
 /// Triangle `k`.
-fn triangle_at(
+pub fn triangle_at(
     m: &Mat34,
     positions: &Option<Strided<'_>>,
     indices: &Option<Strided<'_>>,
@@ -210,7 +210,7 @@ pub(crate) fn radius_at(radii: &Option<Strided<'_>>, common: i32, k: u64) -> i32
 }
 
 /// Sphere `k`.
-fn sphere_at(
+pub fn sphere_at(
     m: &Mat34,
     positions: &Option<Strided<'_>>,
     radii: &Option<Strided<'_>>,

@@ -143,7 +143,7 @@ pub(crate) fn object_in(value: &Value) -> Option<Handle>
 }
 
 /// A scalar parameter.
-pub(crate) fn scalar<O: Objects>(state: &O, subject: &Subject, text: &str) -> i32
+pub fn scalar<O: Objects>(state: &O, subject: &Subject, text: &str) -> i32
     requires { IsTrue (is_name text.now) }
     ensures { result ≡ scalar_of (object_of (O.objects state.now) subject.now) text.now }
 {
@@ -176,7 +176,7 @@ pub(crate) fn named<O: Objects>(state: &O, h: Handle, text: &str) -> Option<Hand
 }
 
 /// The elements of the array that was committed under a name.
-pub(crate) fn array<'a, O: Objects>(state: &'a O, h: Handle, text: &str) -> Option<Strided<'a>>
+pub fn array<'a, O: Objects>(state: &'a O, h: Handle, text: &str) -> Option<Strided<'a>>
     requires { IsTrue (is_name text.now) }
     ensures value { result ≡ array_in (O.objects state.now) h text.now }
     ensures size { IsCounted result }

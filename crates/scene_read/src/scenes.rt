@@ -149,7 +149,7 @@ fn push_shapes(
 }
 
 /// The handle of an object that was committed under a name and is there.
-pub(crate) fn live<O: Objects>(state: &O, h: Handle, text: &str) -> Option<Handle>
+pub fn live<O: Objects>(state: &O, h: Handle, text: &str) -> Option<Handle>
     requires { IsTrue (is_name text.now) }
     ensures { result ≡ live_in (O.objects state.now) h text.now }
 {

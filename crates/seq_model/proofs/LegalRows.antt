@@ -16,7 +16,8 @@ use Rattle.kind_tables.specs.Scenes.{lights_of, primitives_of, scene, scene_by}
 use Rattle.kind_tables.specs.Shapes.{shapes_of}
 use Rattle.kind_tables.specs.WalkRefusals.{fault_of, first_incomplete, first_limit, first_mapped, first_out_of_range, walk_refusal}
 use Rattle.kind_tables.specs.Walks.{below, walk, walk_from}
-use Rattle.seq_model.specs.Answers.{IsAnswer, answer, bounds_of}
+use Rattle.seq_model.specs.Answers.{IsAnswer, answer}
+use Rattle.seq_model.specs.Properties.{bounds_of}
 use Rattle.seq_model.specs.Builds.{builds}
 use Rattle.seq_model.specs.Histories.{frame_at, mine, public}
 use Rattle.seq_model.specs.Legal.{GoesOn, Legal}
@@ -25,7 +26,7 @@ use Rattle.seq_model.specs.Pictures.{has_channel, picture_at, scene_at, state_be
 use Rattle.seq_model.specs.Refusals.{refusal, refusals_of}
 use Rattle.seq_model.specs.Steps.{after, change, discard, effect, end_flight, end_flights, is_reached, is_reached_by, step, swept, take_in, unmap_parameter, with_reach}
 use Rattle.seq_model.specs.Told.{told, told_by, told_from}
-use Rattle.seq_model.specs.Examples.{all_but_the_world, commit_during_a_flight, discarded, ended_after_release, last_holder, parameter_array_dies, released_in_flight, released_twice, render_while_mapped, set_is_not_commit, triangle_history, triangle_made}
+use Rattle.seq_model.specs.Examples.{all_but_the_world, commit_during_a_flight, discarded, ended_after_release, half_back_then_all, last_holder, parameter_array_dies, released_in_flight, released_twice, render_while_mapped, set_is_not_commit, surfaces_lent, triangle_history, triangle_made}
 
 -- all of them are legal
 pub rows_are_legal : Legal triangle_history × Legal last_holder × Legal ended_after_release × Legal set_is_not_commit × Legal commit_during_a_flight × Legal render_while_mapped × Legal released_twice × Legal discarded × Legal parameter_array_dies
@@ -864,5 +865,16 @@ rows_are_legal = (
         (record { placed = (refl, refl); rising = tt }, (record { placed = (refl, refl); rising = tt }, tt)),
       ),
     ),
+  ),
+)
+
+-- and so is what comes back in halves, and then whole
+pub half_back_is_legal : Legal half_back_then_all
+unfolding half_back_then_all surfaces_lent GoesOn IsAnswer answer Legal across add after all_but_the_world axes_of axis_length below blend_hit blended bounds_of broken_parameter builds camera_ray change color_of column commit_during_a_flight cosine cross crossing crossing_depth discard discarded distance_at dot effect end_flight end_flights ended_after_release facing faded fault_of finish_blend first_from first_incomplete first_limit first_mapped first_out_of_range frame_at from_centre grown halvings halvings_within has_channel hit_after hits in_window incoming irradiance_at is_crossed is_in_ball is_lower is_nearer is_reached is_reached_by is_root is_same_place is_settled isqrt last_holder lights_of linear live long_length mine named nearest neg normal_of normalized offset parameter_array_dies part picture picture_at pixel pixels_in placed point_at primitives_of public radiance reach refusal refusals_of released_in_flight released_twice render_while_mapped root_at root_or_next row scaled_down scaled_radius scene scene_at scene_by set_is_not_commit shade shapes_of share_of shortened shown sphere_depth state_before step sub swept take_in tile_rect tiles_at times to_byte told told_by told_from towards triangle_history triangle_made truncated turned unblended unit unmap_parameter walk walk_from walk_refusal weight with_reach
+half_back_is_legal = (
+  record { placed = (refl, refl); rising = tt },
+  (
+    record { placed = (refl, refl); rising = tt },
+    (record { placed = (refl, refl); rising = tt }, (record { placed = (refl, refl); rising = tt }, tt)),
   ),
 )

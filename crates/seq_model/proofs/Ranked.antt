@@ -11,6 +11,7 @@ use Rattle.kind_tables.specs.declared.kinds.Kind.TheVariants.{Array}
 use Rattle.seq_model.proofs.Growths.{Objects, in_within, is_in, lives_at, lives_from, named_is_in, root_is_in, why_in}
 use Rattle.seq_model.proofs.Keys.{RisesWithin, at}
 use Rattle.seq_model.specs.Life.{grown, has, live, names_of}
+use Rattle.seq_model.specs.Soundness.{IsRanked}
 use Rattle.seq_model.specs.State.{Object}
 
 is_rank_low : (kind : Kind) → nat_lt (rank_of kind) 10 ≡ true
@@ -19,10 +20,6 @@ is_rank_low _ = refl
 
 ranks_end : (kind : Kind) → rank_of kind < 10
 ranks_end kind = ltb-true (rank_of kind) 10 (is_rank_low kind)
-
--- what an object names is there, and stands lower
-abbrev pub IsRanked : Objects → Type 0
-IsRanked objects = (h : ℕ) (o : Object) → at h objects ≡ Some o → (k : ℕ) → has k (names_of o) ≡ true → IsSomeAnd (at k objects) (λ p. rank_of p.kind < rank_of o.kind)
 
 module _ (root : ℕ × Object → Bool) (low high : ℕ) (objects : Objects) (rising : RisesWithin low high (keys_of objects)) (ranked : IsRanked objects) where
   named_lower : (h k : ℕ) (o p : Object) → at h objects ≡ Some o → has k (names_of o) ≡ true → at k objects ≡ Some p → rank_of p.kind < rank_of o.kind

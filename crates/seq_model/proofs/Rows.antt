@@ -1,8 +1,8 @@
 -- What the worked histories tell, build, and refuse, computed.
 use Rattle.dev_types.specs.declared.refusals.Refused.{Refused}
 use Rattle.seq_model.specs.declared.calls.Call.{Call}
-use Rattle.seq_model.specs.declared.calls.Call.TheVariants.{MapArray, Retain}
-use Rattle.std.proofs.Common.{true, false, Option, map, [], ◌∷◌, ◌≡◌, refl}
+use Rattle.seq_model.specs.declared.calls.Call.TheVariants.{MapArray, Retain, UnmapArray}
+use Rattle.std.proofs.Common.{true, false, Option, map, [], ◌∷◌, ◌++◌, ◌≡◌, refl}
 use Rattle.dev_types.specs.declared.notices.Notice.TheVariants.{Deleted, Told}
 use Rattle.dev_types.specs.declared.refusals.Severity.TheVariants.{Error}
 use Rattle.dev_types.specs.declared.refusals.Code.TheVariants.{InvalidArgument}
@@ -21,7 +21,8 @@ use Rattle.kind_tables.specs.Scenes.{lights_of, primitives_of, scene, scene_by}
 use Rattle.kind_tables.specs.Shapes.{shapes_of}
 use Rattle.kind_tables.specs.WalkRefusals.{fault_of, first_incomplete, first_limit, first_mapped, first_out_of_range, walk_refusal}
 use Rattle.kind_tables.specs.Walks.{below, walk, walk_from}
-use Rattle.seq_model.specs.Answers.{IsAnswer, answer, bounds_of}
+use Rattle.seq_model.specs.Answers.{IsAnswer, answer}
+use Rattle.seq_model.specs.Properties.{bounds_of}
 use Rattle.seq_model.specs.Builds.{builds}
 use Rattle.seq_model.specs.Histories.{frame_at, mine, public}
 use Rattle.seq_model.specs.Legal.{GoesOn, Legal}
@@ -29,9 +30,10 @@ use Rattle.seq_model.specs.Life.{grown, is_root, live, named}
 use Rattle.seq_model.specs.Pictures.{has_channel, picture_at, scene_at, state_before, tiles_at}
 use Rattle.seq_model.specs.Refusals.{refusal, refusals_of}
 use Rattle.seq_model.specs.Room.{is_full}
-use Rattle.seq_model.specs.Steps.{after, change, discard, effect, end_flight, end_flights, is_reached, is_reached_by, step, swept, take_in, unmap_parameter, with_reach}
+use Rattle.seq_model.specs.Steps.{after, change, discard, effect, end_flight, end_flights, is_reached, is_reached_by, step, swept, take_in, unmap_parameter, with_reach, zeros}
 use Rattle.seq_model.specs.Told.{told, told_by, told_from}
-use Rattle.seq_model.specs.Examples.{asked_then, surface_bytes, triangle_bytes, all_but_the_world, commit_during_a_flight, discarded, ended_after_release, last_holder, parameter_array_dies, released_in_flight, released_twice, render_while_mapped, set_is_not_commit, three_made, triangle_history, triangle_made}
+use Rattle.seq_model.specs.Contents.{cleaned, entered}
+use Rattle.seq_model.specs.Examples.{asked_then, one_and_a_half, surface_bytes, surfaces_lent, triangle_bytes, all_but_the_world, commit_during_a_flight, discarded, ended_after_release, last_holder, parameter_array_dies, released_in_flight, released_twice, render_while_mapped, set_is_not_commit, three_made, triangle_history, triangle_made}
 
 -- what each of them tells
 pub rows_tell :
@@ -58,3 +60,10 @@ rows_fill = (refl, refl, refl)
 pub rows_refuse : map (λ (row : Call × Option Refused). refusal (after triangle_made) row.0) asked_then ≡ map (λ (row : Call × Option Refused). row.1) asked_then
 unfolding asked_then GoesOn IsAnswer answer Legal across add after all_but_the_world axes_of axis_length below blend_hit blended bounds_of broken_parameter builds camera_ray change color_of column commit_during_a_flight cosine cross crossing crossing_depth discard discarded distance_at dot effect end_flight end_flights ended_after_release facing faded fault_of finish_blend first_from first_incomplete first_limit first_mapped first_out_of_range frame_at from_centre grown halvings halvings_within has_channel hit_after hits in_window incoming irradiance_at is_crossed is_in_ball is_lower is_nearer is_reached is_reached_by is_root is_same_place is_settled isqrt last_holder lights_of linear live long_length mine named nearest neg normal_of normalized offset parameter_array_dies part picture picture_at pixel pixels_in placed point_at primitives_of public radiance reach refusal refusals_of released_in_flight released_twice render_while_mapped root_at root_or_next row scaled_down scaled_radius scene scene_at scene_by set_is_not_commit shade shapes_of share_of shortened shown sphere_depth state_before step sub swept take_in tile_rect tiles_at times to_byte told told_by told_from towards triangle_history triangle_made truncated turned unblended unit unmap_parameter walk walk_from walk_refusal weight with_reach
 rows_refuse = refl
+
+-- what comes back from a loan: as it was handed in, where its length is another, and else cleaned
+pub rows_come_back :
+    (entered (after surfaces_lent) (UnmapArray 1 2 one_and_a_half) ≡ UnmapArray 1 2 one_and_a_half) ×
+    (entered (after surfaces_lent) (UnmapArray 1 2 (one_and_a_half ++ zeros 4)) ≡ UnmapArray 1 2 (zeros 16))
+unfolding surfaces_lent cleaned entered IsAnswer answer across add after all_but_the_world axes_of axis_length below blend_hit blended bounds_of broken_parameter builds camera_ray change color_of column commit_during_a_flight cosine cross crossing crossing_depth discard discarded distance_at dot effect end_flight end_flights ended_after_release facing faded fault_of finish_blend first_from first_incomplete first_limit first_mapped first_out_of_range frame_at from_centre grown halvings halvings_within has_channel hit_after hits in_window incoming irradiance_at is_crossed is_in_ball is_lower is_nearer is_reached is_reached_by is_root is_same_place is_settled isqrt last_holder lights_of linear live long_length mine named nearest neg normal_of normalized offset parameter_array_dies part picture picture_at pixel pixels_in placed point_at primitives_of public radiance reach refusal refusals_of released_in_flight released_twice render_while_mapped root_at root_or_next row scaled_down scaled_radius scene scene_at scene_by set_is_not_commit shade shapes_of share_of shortened shown sphere_depth state_before step sub swept take_in tile_rect tiles_at times to_byte told told_by told_from towards triangle_history triangle_made truncated turned unblended unit unmap_parameter walk walk_from walk_refusal weight with_reach
+rows_come_back = (refl, refl)

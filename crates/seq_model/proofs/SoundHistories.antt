@@ -25,7 +25,7 @@ use Rattle.seq_model.proofs.Handles.{IsRising, changed_rises, changed, rises, ri
 use Rattle.seq_model.proofs.Keys.{at, at_append, key_here, nothing_outside}
 use Rattle.seq_model.proofs.Loans.{Each, Earlier, loans_are_earlier}
 use Rattle.seq_model.proofs.Prefixes.{legal_by}
-use Rattle.seq_model.proofs.Ranked.{IsRanked, closed}
+use Rattle.seq_model.proofs.Ranked.{closed}
 use Rattle.seq_model.proofs.Sound.{KeepsAt, all_sound, changed_keeps, changed_sound, ended_sound, names_are_lower, new_sound, sound_at, sound_kept}
 use Rattle.seq_model.proofs.SoundCalls.{committed_sound, content_is_sound, found_fits, lent_sound, named_loan, new_array_sound, new_object_sound, restaged, returned_sound, same_values, taken_array, taken_array_sound, with_loan_sound, without_loan_sound}
 use Rattle.seq_model.proofs.SoundSteps.{all_with_value, all_without, loan_fits, set_fits}
@@ -34,7 +34,7 @@ use Rattle.seq_model.specs.Histories.{History}
 use Rattle.seq_model.specs.Legal.{IsInPlace, Legal, are_elements_sound, content_of_parameter, is_content_sound}
 use Rattle.seq_model.specs.Life.{has, names_of}
 use Rattle.seq_model.specs.Refusals.{is_parameter_loan_out, is_parameter_out, refusal}
-use Rattle.seq_model.specs.Soundness.{AllSound, Fits, IsSound, LoanFits, NamesFitting}
+use Rattle.seq_model.specs.Soundness.{AllSound, Fits, IsRanked, IsSound, LoanFits, NamesFitting}
 use Rattle.kind_tables.specs.Typed.{Takes}
 use Rattle.seq_model.specs.State.{Object, ParameterLoan, Phase, Empty, Flight, Done, State, changed_at, content_of_loan, object_at, parameter_loan, with_object}
 use Rattle.seq_model.specs.Steps.{Past, after, change, change_array, commit, discard, effect, end_flights, end_parameter_loan, fresh, fresh_array, holding, lend_parameter, lent, map_channel, next_place, set_phase, set_staged, step, stop, swept, take_in, unmap_channel, unmap_parameter}

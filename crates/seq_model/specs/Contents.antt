@@ -1,9 +1,9 @@
 -- What comes back by an unmap: an element that names no object which is there with its type, is none.
-use Rattle.std.specs.Prelude.{ℕ, List, fold, if◌then◌else◌}
+use Rattle.std.specs.Prelude.{ℕ, List, fold, length, if◌then◌else◌}
 use Rattle.std.specs.Option.{option_and_then, option_map_or}
 use Rattle.dev_types.specs.Blocks.{with_part}
 use Rattle.kind_tables.specs.SceneObjects.{Block, objects_in}
-use Rattle.seq_model.specs.Refusals.{has_type}
+use Rattle.seq_model.specs.Refusals.{has_type, is_array_loan_out, is_parameter_loan_out}
 use Rattle.seq_model.specs.State.{content_of_loan, object_at, parameter_loan, with_bytes}
 use Rattle.seq_model.specs.Steps.{Past, zeros}
 use Rattle.seq_model.specs.declared.calls.Call.{Call}
@@ -27,8 +27,11 @@ bytes_for_parameter past h number bytes =
     option_map_or (λ loan. (cleaned past (content_of_loan loan bytes)).bytes)
     (option_and_then (λ o. parameter_loan number o.parameter_loans) (object_at past.state h)) bytes
 
--- an unmap of a loan that is out, as it is entered: with these bytes
+-- a call as it is entered: what an unmap brings back from a loan that is out is cleaned, and any other bytes stay as they were handed in
 unfoldable pub entered : Past → Call → Call
-entered past (UnmapArray h number bytes) = UnmapArray h number (bytes_for_array past h bytes)
-entered past (UnmapParameterArray h name number bytes) = UnmapParameterArray h name number (bytes_for_parameter past h number bytes)
+entered past (UnmapArray h number bytes) =
+    UnmapArray h number (if is_array_loan_out past.state h number (length bytes) then bytes_for_array past h bytes else bytes)
+entered past (UnmapParameterArray h name number bytes) =
+    UnmapParameterArray h name number
+    (if is_parameter_loan_out past.state h name number (length bytes) then bytes_for_parameter past h number bytes else bytes)
 entered past call = call

@@ -11,6 +11,7 @@ use Rattle.dev_types.specs.declared.refusals.Refused.TheVariants.{ArrayMapped, B
 use Rattle.dev_types.specs.declared.values.Value.{Value}
 use Rattle.dev_types.specs.declared.values.Value.TheVariants.{Object, Scalar, Uint32, ScalarVec3, TypeName, Uint32Vec2}
 use Rattle.seq_model.specs.Histories.{History}
+use Rattle.seq_model.specs.Steps.{zeros}
 use Rattle.seq_model.specs.declared.calls.Call.{Call}
 use Rattle.seq_model.specs.declared.calls.Call.TheVariants.{NewObject, NewArray, Retain, Release, SetParameter, UnsetAll, Commit, MapArray, UnmapArray, MapParameterArray, UnmapParameterArray, RenderFrame, FrameReady, DiscardFrame, MapFrame, UnmapFrame, GetProperty, Subtypes, ObjectInfo, ParameterInfo}
 use Rattle.seq_model.specs.declared.calls.Entry.{Entry}
@@ -183,6 +184,19 @@ parameter_array_dies =
     release 1 ∷
     Called 0 (UnmapParameterArray 1 (codes "vertex.position") 2 triangle_bytes) (reply.Made 2) ∷
     denied (Commit 1) (BadHandle 1) ∷ []
+
+-- an array of two surfaces is lent
+unfoldable pub surfaces_lent : History
+surfaces_lent = Called 0 (NewArray ty.Surface 2 8 Managed []) (reply.Made 1) ∷ Called 0 (MapArray 1) (reply.Lent 2) ∷ []
+
+-- an element that names nothing, and the first half of one that names an object which is not there
+abbrev pub one_and_a_half : List ℕ
+one_and_a_half = 0 ∷ 0 ∷ 0 ∷ 0 ∷ 0 ∷ 0 ∷ 0 ∷ 0 ∷ 9 ∷ 0 ∷ 0 ∷ 0 ∷ []
+
+-- they come back with 12 bytes for their 16, which are entered as they are and refused; then with all, of which nothing stays that names what
+-- is not there
+unfoldable pub half_back_then_all : History
+half_back_then_all = surfaces_lent ++ denied (UnmapArray 1 2 one_and_a_half) NotMapped ∷ done (UnmapArray 1 2 (zeros 16)) ∷ []
 
 -- three objects are made
 unfoldable pub three_made : History

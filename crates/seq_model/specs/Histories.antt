@@ -1,7 +1,7 @@
 -- Histories: lists of entries, whose places count from 1.
 use Rattle.std.specs.Prelude.{ℕ, zero, suc, ◌+◌, ◌-◌, ◌==◌, Bool, false, List, [], Option, Some, None, count_by, slice_get, take}
-use Rattle.std.specs.List.{filter_map}
-use Rattle.std.specs.Option.{option_and_then}
+use Rattle.std.specs.List.{filter, filter_map}
+use Rattle.std.specs.Option.{option_and_then, option_map_or}
 use Rattle.seq_model.specs.declared.calls.Call.TheVariants.{NewObject, NewArray, Retain, Release, RenderFrame}
 use Rattle.seq_model.specs.declared.calls.Entry.{Entry}
 use Rattle.seq_model.specs.declared.calls.Entry.TheVariants.{Called}
@@ -19,6 +19,19 @@ before history (suc i) = take i history
 abbrev pub entry_at : History → ℕ → Option Entry
 entry_at history zero = None
 entry_at history (suc i) = slice_get history i
+
+-- the caller of an entry, where it is a call
+abbrev pub caller_of : Entry → Option ℕ
+caller_of (Called caller _ _) = Some caller
+caller_of _ = None
+
+-- the entry is a call of this caller
+abbrev pub is_call_of : ℕ → Entry → Bool
+is_call_of caller e = option_map_or (λ c. c == caller) (caller_of e) false
+
+-- the calls of a caller in a history, in their order
+abbrev pub entries_of : ℕ → History → History
+entries_of caller history = filter (is_call_of caller) history
 
 -- the entry is a creation that was done, and made h for its caller
 abbrev pub is_making : ℕ → Entry → Bool

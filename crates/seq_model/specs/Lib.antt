@@ -2,6 +2,7 @@ pub mod Answers
 pub mod Builds
 pub mod Contents
 pub mod Deaths
+pub mod Endings
 pub mod Ends
 pub mod Examples
 pub mod Extensions
@@ -10,6 +11,7 @@ pub mod Legal
 pub mod Lending
 pub mod Life
 pub mod Pictures
+pub mod Properties
 pub mod Refusals
 pub mod Room
 pub mod Soundness

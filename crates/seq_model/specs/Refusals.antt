@@ -1,5 +1,5 @@
 -- Why a call is refused after a past. A call that several refusals apply to is refused with the one of the lowest number.
-use Rattle.std.specs.Prelude.{ℕ, zero, suc, ◌*◌, ◌==◌, ◌^◌, ◌&&◌, ◌||◌, not, nat_lt, Bool, true, false, List, [], ◌∷◌, ◌++◌, Option, Some, None, codes, length, map, if◌then◌else◌}
+use Rattle.std.specs.Prelude.{ℕ, zero, suc, ◌*◌, ◌==◌, ◌^◌, ◌&&◌, ◌||◌, not, nat_lt, Bool, true, false, List, [], ◌∷◌, ◌++◌, Option, Some, None, length, map, if◌then◌else◌}
 use Rattle.std.specs.Bool.{then_some}
 use Rattle.std.specs.List.{list_any}
 use Rattle.std.specs.Option.{is_none, is_some, option_and_then, option_map_or}
@@ -20,13 +20,13 @@ use Rattle.dev_types.specs.declared.values.Value.TheVariants as value
 use Rattle.kind_tables.specs.Kinds.{is_same_type, kind_of, subtypes_of, type_of_kind}
 use Rattle.kind_tables.specs.Rows.{row_of}
 use Rattle.kind_tables.specs.SceneObjects.{objects_in}
-use Rattle.kind_tables.specs.WalkRefusals.{fault_of, first_answer, first_mapped, walk_refusal}
+use Rattle.kind_tables.specs.WalkRefusals.{fault_of, first_answer, first_mapped}
 use Rattle.kind_tables.specs.Walks.{Visit, walk}
 use Rattle.kind_tables.specs.declared.kinds.Kind.{Kind}
-use Rattle.kind_tables.specs.declared.kinds.Kind.TheVariants.{FrameDefault, WorldDefault}
 use Rattle.kind_tables.specs.declared.rows.Row.{Row}
 use Rattle.seq_model.specs.Histories.{public}
 use Rattle.seq_model.specs.Pictures.{has_channel, tiles_at}
+use Rattle.seq_model.specs.Properties.{refusal_of_property, refusal_of_version}
 use Rattle.seq_model.specs.State.{ArrayState, ParameterLoan, Phase, Empty, Flight, Done, State, array_loan, object_at, scene_objects}
 use Rattle.seq_model.specs.Steps.{Past}
 use Rattle.seq_model.specs.declared.calls.Call.{Call}
@@ -215,18 +215,12 @@ refusals_of_map_frame past h c =
     this_channel_mapped past h c ∷
     no_channel past (phase_at past h) c ∷ []
 
--- the properties of an object of a kind: the bounds of a world want a walk, and a name that is no property is refused
-abbrev pub refusal_of_property : Past → ℕ → Kind → List ℕ → Option Refused
-refusal_of_property past h WorldDefault name =
-    if bytes_eq name (codes "bounds") then walk_refusal (scene_objects past.state) (walk_at past h) else Some NoSuchName
-refusal_of_property past h FrameDefault name = then_some (not (bytes_eq name (codes "renderProgress"))) NoSuchName
-refusal_of_property past h _ name = Some NoSuchName
-
 -- handle 0 stands for the device, which tells its version and is not asked whether it lives
 abbrev pub refusals_of_query : Past → ℕ → List ℕ → List (Option Refused)
-refusals_of_query past zero name = then_some (not (bytes_eq name (codes "version"))) NoSuchName ∷ []
+refusals_of_query past zero name = refusal_of_version name ∷ []
 refusals_of_query past (suc h) name =
-    own past (suc h) ++ option_and_then (λ o. refusal_of_property past (suc h) o.kind name) (object_at past.state (suc h)) ∷ []
+    own past (suc h) ++
+    option_and_then (λ o. refusal_of_property (scene_objects past.state) (suc h) o.kind name) (object_at past.state (suc h)) ∷ []
 
 -- a parameter of a kind, if there is such a kind
 abbrev pub refusal_of_info : Option Kind → List ℕ → Option Refused

@@ -1,18 +1,23 @@
 -- What holds of the objects of every legal history: their values have the types of their parameters, and all that they name is there, as the
 -- tables ask for it.
-use Rattle.std.specs.Prelude.{◌≡◌, ℕ, List, All, Option, Some, None, IsTrue}
+use Rattle.std.specs.Prelude.{◌≡◌, ℕ, ◌<◌, true, List, All, Option, Some, None, IsTrue}
+use Rattle.std.specs.BTreeMap.{is_at}
+use Rattle.std.specs.Map.{lookup}
 use Rattle.std.specs.Option.{IsSomeAnd, MatchOption}
+use Rattle.std.specs.Ordering.{nat_cmp}
 use Rattle.dev_types.specs.DataTypes.{is_element_type}
 use Rattle.dev_types.specs.ValueBytes.{type_of}
 use Rattle.dev_types.specs.declared.data_types.DataType.{DataType}
 use Rattle.dev_types.specs.declared.data_types.DataType.TheVariants as ty
 use Rattle.dev_types.specs.declared.values.Value.{Value}
 use Rattle.kind_tables.specs.Kinds.{type_of_kind}
+use Rattle.kind_tables.specs.Ranks.{rank_of}
 use Rattle.kind_tables.specs.Rows.{row_of}
 use Rattle.kind_tables.specs.SceneObjects.{Block, object_in, objects_in}
 use Rattle.kind_tables.specs.Typed.{Takes}
 use Rattle.kind_tables.specs.declared.kinds.Kind.{Kind}
 use Rattle.kind_tables.specs.declared.kinds.Kind.TheVariants.{Array}
+use Rattle.seq_model.specs.Life.{has, names_of}
 use Rattle.seq_model.specs.State.{ArrayState, Object, ParameterLoan, State, object_at}
 
 -- the object h is there, and the parameter of this name takes it
@@ -52,3 +57,9 @@ pub record IsSound (s : State) (o : Object) : Type 0 where
 -- each object is sound
 abbrev pub AllSound : State → Type 0
 AllSound s = (h : ℕ) → MatchOption (object_at s h) (Unit {0}) (IsSound s)
+
+-- what each of these objects names is among them, and stands lower
+abbrev pub IsRanked : List (ℕ × Object) → Type 0
+IsRanked objects =
+    (h : ℕ) (o : Object) → lookup (is_at (nat_cmp h)) objects ≡ Some o → (k : ℕ) → has k (names_of o) ≡ true →
+    IsSomeAnd (lookup (is_at (nat_cmp k)) objects) (λ p. rank_of p.kind < rank_of o.kind)

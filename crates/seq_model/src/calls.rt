@@ -1,4 +1,10 @@
-use dev_types::{Bytes, Channel, DataType, Handle, Name, Names, Origin, ParamInfo, Refused, Value};
+//! Calls, their replies, and the entries of a journal.
+ghost use Rattle.std.specs.Prelude.{◌≡◌, IfOk};
+
+use dev_types::{
+    Bytes, Channel, DataType, Handle, Name, Names, NoMemory, Origin, ParamInfo, Refused, Value,
+};
+use std::alloc::Global;
 
 /// A call of the device. An unmap brings the bytes of its loan.
 #[derive(Drop)]
@@ -120,6 +126,39 @@ pub enum Reply {
     Listed(Names),
     Info(ParamInfo),
     Denied(Refused),
+}
+
+impl Reply {
+    /// The same reply once more. The bytes of a picture are shared and not copied; the only error is want of memory.
+    pub fn share(&self, alloc: Global) -> Result<Reply, NoMemory>
+        ensures { IfOk result (λ reply. reply ≡ self.now) }
+    {
+        Ok(match self {
+            Reply::Done => Reply::Done,
+            Reply::Made(h) => Reply::Made(*h),
+            Reply::Lent(number) => Reply::Lent(*number),
+            Reply::Mapped {
+                width,
+                height,
+                ty,
+                rows,
+            } => Reply::Mapped {
+                width: *width,
+                height: *height,
+                ty: *ty,
+                rows: rows.share(alloc)?,
+            },
+            Reply::Ready => Reply::Ready,
+            Reply::NotReady { given, of } => Reply::NotReady {
+                given: *given,
+                of: *of,
+            },
+            Reply::Val(value) => Reply::Val(value.copied()),
+            Reply::Listed(names) => Reply::Listed(names.copied(alloc)?),
+            Reply::Info(info) => Reply::Info(info.copied(alloc)?),
+            Reply::Denied(refused) => Reply::Denied(refused.copied()),
+        })
+    }
 }
 
 /// An entry of the journal: a call with its reply, or a note of the device.

@@ -1,14 +1,15 @@
 //! Worked histories, computed: each is the contract of a function that does nothing.
-ghost use Rattle.std.specs.Prelude.{◌≡◌, [], ◌∷◌, map, true, false};
+ghost use Rattle.std.specs.Prelude.{◌≡◌, [], ◌∷◌, ◌++◌, map, true, false};
 ghost use Rattle.dev_types.specs.declared.notices.Notice.TheVariants.{Deleted, Told};
 ghost use Rattle.dev_types.specs.declared.refusals.Code.TheVariants.{InvalidArgument};
 ghost use Rattle.dev_types.specs.declared.refusals.Severity.TheVariants.{Error};
 ghost use Rattle.seq_model.specs.Builds.{builds};
-ghost use Rattle.seq_model.specs.Examples.{asked_then, all_but_the_world, commit_during_a_flight, discarded, ended_after_release, last_holder, parameter_array_dies, released_in_flight, released_twice, render_while_mapped, set_is_not_commit, surface_bytes, three_made, triangle_bytes, triangle_history, triangle_made};
+ghost use Rattle.seq_model.specs.Contents.{entered};
+ghost use Rattle.seq_model.specs.Examples.{asked_then, all_but_the_world, commit_during_a_flight, discarded, ended_after_release, half_back_then_all, last_holder, one_and_a_half, parameter_array_dies, released_in_flight, released_twice, render_while_mapped, set_is_not_commit, surface_bytes, surfaces_lent, three_made, triangle_bytes, triangle_history, triangle_made};
 ghost use Rattle.seq_model.specs.Legal.{Legal};
 ghost use Rattle.seq_model.specs.Refusals.{refusal};
 ghost use Rattle.seq_model.specs.Room.{is_full};
-ghost use Rattle.seq_model.specs.Steps.{after};
+ghost use Rattle.seq_model.specs.Steps.{after, zeros};
 ghost use Rattle.seq_model.specs.Told.{told};
 
 use crate::calls::Call;
@@ -19,6 +20,15 @@ pub fn rows_are_legal()
     ensures { Legal triangle_history × Legal last_holder × Legal ended_after_release × Legal set_is_not_commit
         × Legal commit_during_a_flight × Legal render_while_mapped × Legal released_twice × Legal discarded
         × Legal parameter_array_dies }
+{}
+
+/// What comes back from a loan that is out is cleaned of elements that name what is not there. Bytes of another length are those of no loan that
+/// is out: they are entered as they were handed in, and refused.
+#[tactic(auto, using(crate::proofs::Rows::rows_come_back, crate::proofs::LegalRows::half_back_is_legal))]
+pub fn rows_come_back()
+    ensures short { entered (after surfaces_lent) (Call.UnmapArray 1 2 one_and_a_half) ≡ Call.UnmapArray 1 2 one_and_a_half }
+    ensures whole { entered (after surfaces_lent) (Call.UnmapArray 1 2 (one_and_a_half ++ zeros 4)) ≡ Call.UnmapArray 1 2 (zeros 16) }
+    ensures legal { Legal half_back_then_all }
 {}
 
 /// An array's end is told where its last holder goes: at the close, at the release of the world that held it last, at the end

@@ -1,3 +1,4 @@
+//! The journal of a device.
 ghost use Rattle.std.specs.Prelude.{◌≡◌, ◌<◌, Some, IsTrue, ◌↔◌, [], length, slice_get};
 
 use crate::calls::Entry;

@@ -6,8 +6,8 @@ use Rattle.seq_model.specs.declared.calls.Call.TheVariants.{RenderFrame}
 use Rattle.seq_model.specs.declared.calls.Entry.TheVariants.{Called}
 use Rattle.seq_model.specs.declared.calls.Reply.TheVariants as reply
 use Rattle.plain_journal.proofs.StepFacts.{render_entry, rendered_is}
-use Rattle.plain_journal.specs.Endings.{reply_to}
-use Rattle.plain_journal.specs.Worlds.{render_of}
+use Rattle.seq_model.specs.Endings.{reply_to}
+use Rattle.past_laws.specs.Worlds.{render_of}
 use Rattle.plain_device.proofs.steps.step.Given.{Over}
 use Rattle.plain_device.proofs.steps.step.Goals as goal
 

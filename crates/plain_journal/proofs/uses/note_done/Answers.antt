@@ -1,4 +1,4 @@
-use Rattle.plain_journal.proofs.UseFacts.{none_of_these, silent}
+use Rattle.past_laws.proofs.UseFacts.{none_of_these, silent}
 use Rattle.seq_model.specs.declared.calls.Reply.TheVariants as reply
 use Rattle.plain_journal.proofs.uses.note_done.Goals as goal
 

@@ -1,5 +1,5 @@
 use Rattle.std.proofs.Common.{◌∙◌}
-use Rattle.plain_journal.proofs.UseFacts.{unworlded}
+use Rattle.past_laws.proofs.UseFacts.{unworlded}
 use Rattle.plain_journal.proofs.uses.note_render.Goals as goal
 
 pub returns-in-None : goal.returns-in-None

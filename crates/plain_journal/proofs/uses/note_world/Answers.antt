@@ -1,4 +1,4 @@
-use Rattle.plain_journal.proofs.UseFacts.{not_done, silent}
+use Rattle.past_laws.proofs.UseFacts.{not_done, silent}
 use Rattle.plain_journal.proofs.uses.note_world.Goals as goal
 
 pub returns-in_default : goal.returns-in_default

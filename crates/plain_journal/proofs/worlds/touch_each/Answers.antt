@@ -1,5 +1,5 @@
 use Rattle.std.proofs.Common.{ℕ, zero, suc, ◌+◌, ◌≡◌, ◌∙◌, List, [], ◌∷◌, ◌++◌, refl, ap, get_or, set, map, take, drop, arith}
-use Rattle.plain_journal.specs.Worlds.{Use, touched_by}
+use Rattle.past_laws.specs.Worlds.{Use, touched_by}
 use Rattle.plain_journal.proofs.worlds.touch_each.Goals as goal
 
 told_next : {X : Type 0} (f : X → X) (xs : List X) (i : ℕ) (d : X) →

@@ -1,5 +1,5 @@
 use Rattle.std.proofs.Common.{◌≡◌, ◌++◌, map, take, drop}
-use Rattle.plain_journal.specs.Worlds.{touched_by}
+use Rattle.past_laws.specs.Worlds.{touched_by}
 use Rattle.plain_journal.proofs.worlds.touch_each.Given as goal
 
 -- the uses up to the index were told, the others stand as they did

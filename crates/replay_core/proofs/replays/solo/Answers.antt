@@ -1,7 +1,7 @@
 use Rattle.std.proofs.Common.{◌≡◌, ◌∙◌, List, ap, false, fold, sym}
 use Rattle.std.specs.List.{enumerate_from}
 use Rattle.std.specs.Result.{is_err}
-use Rattle.plain_journal.specs.Endings.{ended}
+use Rattle.seq_model.specs.Endings.{ended}
 use Rattle.replay_core.proofs.ReplayFacts.{if_not_err}
 use Rattle.replay_core.specs.Solo.{Replay, phase_replayed, solo, trace_replayed}
 use Rattle.trace_text.specs.declared.calls.Phase.{Phase}

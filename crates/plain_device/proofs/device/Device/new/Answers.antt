@@ -1,7 +1,7 @@
 use Rattle.std.proofs.Common.{◌≡◌, ◌≤◌, length, refl, rules, subst, sym, arith}
 use Rattle.seq_model.specs.Extensions.{let_follow, let_follow_from}
 use Rattle.seq_model.specs.Steps.{Past, start}
-use Rattle.plain_journal.specs.Open.{IsOpen}
+use Rattle.past_laws.specs.Open.{IsOpen}
 use Rattle.plain_device.proofs.device.Device.new.Goals as goal
 
 pub invariant_of-result : goal.invariant_of-result

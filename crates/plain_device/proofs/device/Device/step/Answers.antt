@@ -1,6 +1,6 @@
 use Rattle.std.proofs.Common.{rules}
 use Rattle.plain_journal.proofs.NoteFacts.{open_after}
-use Rattle.plain_journal.specs.Endings.{reply_to}
+use Rattle.seq_model.specs.Endings.{reply_to}
 use Rattle.plain_device.proofs.device.Device.step.Goals as goal
 
 pub invariant_of-self : goal.invariant_of-self

@@ -1,5 +1,5 @@
 use Rattle.std.proofs.Common.{rules}
-use Rattle.plain_answers.proofs.Answering.{answered_unless}
+use Rattle.past_laws.proofs.Answering.{answered_unless}
 use Rattle.plain_device.specs.Views.{past_of}
 use Rattle.plain_device.proofs.device.Device.waits_for.Goals as goal
 

@@ -4,7 +4,7 @@ use Rattle.seq_model.specs.Told.{told_by}
 use Rattle.seq_model.specs.declared.calls.Entry.TheVariants.{Closed}
 use Rattle.plain_journal.proofs.EndFacts.{knows_closed}
 use Rattle.plain_journal.specs.Whole.{past_in}
-use Rattle.plain_journal.specs.Worlds.{KnowsWorlds}
+use Rattle.past_laws.specs.Worlds.{KnowsWorlds}
 use Rattle.plain_journal.proofs.record.Record.close.Goals as goal
 
 pub returns : goal.returns

@@ -3,7 +3,7 @@ use Rattle.std.specs.List.{filter_map}
 use Rattle.seq_model.specs.Steps.{step}
 use Rattle.seq_model.specs.Told.{end_of_object, gone, status_at, told_by}
 use Rattle.seq_model.specs.declared.calls.Entry.TheVariants.{Called}
-use Rattle.plain_journal.proofs.Answered.{suits}
+use Rattle.past_laws.proofs.Answered.{suits}
 use Rattle.plain_journal.proofs.StepFacts.{call_countable, call_fits, call_marks, call_stepped, call_told}
 use Rattle.plain_journal.specs.Whole.{IsStepped, past_in}
 use Rattle.plain_journal.proofs.record.Record.enter_call.Given.{Over}

@@ -5,10 +5,10 @@ use Rattle.seq_model.specs.Told.{end_of_object, gone, told_by}
 use Rattle.seq_model.specs.declared.calls.Call.TheVariants.{RenderFrame}
 use Rattle.seq_model.specs.declared.calls.Reply.TheVariants as reply
 use Rattle.plain_journal.proofs.StepFacts.{call_fits, call_told, render_is_granted, render_stepped, show_is_effect}
-use Rattle.plain_journal.specs.Open.{IsOpen}
+use Rattle.past_laws.specs.Open.{IsOpen}
 use Rattle.plain_journal.specs.Ready.{IsReady}
 use Rattle.plain_journal.specs.Whole.{IsStepped, past_in}
-use Rattle.plain_journal.specs.Worlds.{render_of}
+use Rattle.past_laws.specs.Worlds.{render_of}
 use Rattle.plain_journal.proofs.record.Record.enter_render.Given.{Over}
 use Rattle.plain_journal.proofs.record.Record.enter_render.Goals as goal
 

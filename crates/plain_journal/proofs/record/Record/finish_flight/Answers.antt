@@ -4,9 +4,9 @@ use Rattle.seq_model.specs.State.{Done, State}
 use Rattle.seq_model.specs.Steps.{Past, step}
 use Rattle.seq_model.specs.Told.{end_of_object, gone, told_by}
 use Rattle.seq_model.specs.declared.calls.Entry.TheVariants.{Finished}
-use Rattle.plain_journal.proofs.Legality.{finished_is_open}
+use Rattle.past_laws.proofs.OpenFacts.{finished_is_open}
 use Rattle.plain_journal.proofs.NoteFacts.{as_many, finish_stepped, marks_fit, same_next}
-use Rattle.plain_journal.specs.Open.{IsOpen}
+use Rattle.past_laws.specs.Open.{IsOpen}
 use Rattle.plain_journal.specs.Whole.{past_in}
 use Rattle.plain_journal.proofs.record.Record.finish_flight.Goals as goal
 

@@ -6,7 +6,7 @@ use Rattle.plain_journal.proofs.Closings.{ending_over, ending_start, ending_step
 use Rattle.plain_journal.proofs.EndFacts.{told_on}
 use Rattle.plain_journal.proofs.StepFacts.{was_unseen}
 use Rattle.plain_journal.specs.Leaving.{IsEnding}
-use Rattle.plain_journal.specs.Open.{IsUnseen}
+use Rattle.plain_journal.specs.Unseen.{IsUnseen}
 use Rattle.plain_journal.specs.Whole.{past_in}
 use Rattle.plain_journal.proofs.record.Record.leave_all.Goals.{then-is_flight, else-is_flight}
 use Rattle.plain_journal.proofs.record.Record.leave_all.Goals as goal

@@ -1,9 +1,11 @@
 use Rattle.std.proofs.Common.{◌≡◌, ◌∙◌, ◌++◌, ◌∷◌, [], ap, rules, subst, sym}
 use Rattle.seq_model.specs.Steps.{Past, step}
 use Rattle.seq_model.specs.declared.calls.Entry.TheVariants.{Left}
-use Rattle.plain_journal.proofs.Legality.{left_is_legal, left_is_open}
+use Rattle.plain_journal.proofs.Legality.{left_is_legal}
+use Rattle.past_laws.proofs.OpenFacts.{left_is_open}
 use Rattle.plain_journal.proofs.StepFacts.{was_unseen}
-use Rattle.plain_journal.specs.Open.{IsOpen, IsUnseen}
+use Rattle.plain_journal.specs.Unseen.{IsUnseen}
+use Rattle.past_laws.specs.Open.{IsOpen}
 use Rattle.plain_journal.specs.Whole.{past_in}
 use Rattle.plain_journal.proofs.record.Record.let_leave.Goals as goal
 

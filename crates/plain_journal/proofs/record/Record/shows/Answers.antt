@@ -1,6 +1,6 @@
 use Rattle.std.proofs.Common.{rules, subst, sym}
-use Rattle.plain_journal.specs.Kept.{WasRendered}
-use Rattle.plain_journal.proofs.RenderFacts.{was_rendered}
+use Rattle.past_laws.specs.Rendered.{WasRendered}
+use Rattle.past_laws.proofs.RenderFacts.{was_rendered}
 use Rattle.plain_journal.proofs.record.Record.shows.Goals as goal
 
 pub returns-clause-rendered : goal.returns-clause-rendered

@@ -1,6 +1,6 @@
 use Rattle.std.proofs.Common.{ℕ, ◌∙◌, sym, ap, get_or}
-use Rattle.plain_journal.proofs.LastUses.{found_at, not_found}
-use Rattle.plain_journal.specs.Worlds.{Use, Worlds, wants_build}
+use Rattle.past_laws.proofs.LastUses.{found_at, not_found}
+use Rattle.past_laws.specs.Worlds.{Use, Worlds, wants_build}
 use Rattle.plain_journal.proofs.worlds.Worlds.is_build.Goals as goal
 
 pub returns-in-Some : goal.returns-in-Some

@@ -1,5 +1,5 @@
 use Rattle.std.proofs.Common.{refl}
-use Rattle.plain_journal.proofs.WorldFacts.{knows_nothing}
+use Rattle.past_laws.proofs.WorldFacts.{knows_nothing}
 use Rattle.plain_journal.proofs.worlds.Worlds.new.Goals as goal
 
 pub returns : goal.returns

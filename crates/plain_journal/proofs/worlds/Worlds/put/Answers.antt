@@ -1,8 +1,8 @@
 use Rattle.std.proofs.Common.{◌==◌, ◌∙◌, ◌++◌, ◌∷◌, [], ℕ, sym, ap, set}
 use Rattle.std.specs.List.{position}
-use Rattle.plain_journal.proofs.LastUses.{pushed_there, set_there}
+use Rattle.past_laws.proofs.LastUses.{pushed_there, set_there}
 use Rattle.seq_model.proofs.Keys.{at}
-use Rattle.plain_journal.specs.Worlds.{Use, Worlds}
+use Rattle.past_laws.specs.Worlds.{Use, Worlds}
 use Rattle.plain_journal.proofs.worlds.Worlds.put.Goals as goal
 
 pub returns-in-Some-clause-uses : goal.returns-in-Some-clause-uses

@@ -3,7 +3,7 @@ use Rattle.std.specs.Prelude.{cond, false, ◌==◌, Some}
 use Rattle.std.specs.BTreeMap.{is_at}
 use Rattle.std.specs.Map.{lookup}
 use Rattle.std.specs.Ordering.{nat_cmp}
-use Rattle.plain_journal.proofs.WorldFacts.{knows_rendered}
+use Rattle.past_laws.proofs.WorldFacts.{knows_rendered}
 use Rattle.plain_journal.proofs.worlds.Worlds.render.Goals as goal
 
 pub returns-clause-known : goal.returns-clause-known

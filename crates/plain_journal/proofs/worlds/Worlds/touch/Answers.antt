@@ -1,6 +1,6 @@
 use Rattle.std.proofs.Common.{◌∙◌, ap, map}
-use Rattle.plain_journal.specs.Worlds.{Worlds, touched_by}
-use Rattle.plain_journal.proofs.WorldFacts.{knows_touched}
+use Rattle.past_laws.specs.Worlds.{Worlds, touched_by}
+use Rattle.past_laws.proofs.WorldFacts.{knows_touched}
 use Rattle.plain_journal.proofs.worlds.Worlds.touch.Goals as goal
 
 pub returns-clause-known : goal.returns-clause-known

@@ -1,6 +1,6 @@
 use Rattle.std.proofs.Common.{◌≡◌, ◌∙◌, ap, subst, sym, true, OnOk}
 use Rattle.std.specs.Prelude.{IsSome}
-use Rattle.plain_journal.specs.Endings.{reply_to}
+use Rattle.seq_model.specs.Endings.{reply_to}
 use Rattle.plain_device.specs.Views.{past_of}
 use Rattle.replay_core.proofs.ReplayFacts.{unmap_is_answered, unmap_is_sound, unmap_stops_nothing}
 use Rattle.replay_core.specs.Loans.{is_unmap}

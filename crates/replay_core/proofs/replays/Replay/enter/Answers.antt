@@ -1,4 +1,4 @@
-use Rattle.plain_journal.specs.Endings.{reply_to}
+use Rattle.seq_model.specs.Endings.{reply_to}
 use Rattle.plain_device.specs.Views.{client_of, past_of}
 use Rattle.replay_core.proofs.ReplayFacts.{step_leads, step_tells}
 use Rattle.replay_core.specs.Views.{notices_of}

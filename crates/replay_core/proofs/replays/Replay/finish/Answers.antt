@@ -1,5 +1,5 @@
 use Rattle.std.proofs.Common.{◌∙◌, ap}
-use Rattle.plain_journal.specs.Endings.{ended}
+use Rattle.seq_model.specs.Endings.{ended}
 use Rattle.replay_core.specs.Solo.{Replay}
 use Rattle.replay_core.proofs.replays.Replay.finish.Goals as goal
 

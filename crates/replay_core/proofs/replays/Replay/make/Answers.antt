@@ -1,6 +1,6 @@
 use Rattle.std.proofs.Common.{◌≡◌, ◌∙◌, Option, Some, None, ℕ, IfSome, true, ap, refl, subst, sym}
 use Rattle.std.specs.Prelude.{IsSome}
-use Rattle.plain_journal.specs.Endings.{reply_to}
+use Rattle.seq_model.specs.Endings.{reply_to}
 use Rattle.plain_device.specs.Views.{last_reply}
 use Rattle.replay_core.proofs.ReplayFacts.{done_is, made_by, none_stopped, others_sound, replied, roomy_reply, stopped_is_there}
 use Rattle.replay_core.specs.Labels.{handle_of}

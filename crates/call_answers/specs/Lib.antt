@@ -1,0 +1,5 @@
+pub mod Cleaning
+pub mod Named
+pub mod Plain
+pub mod Showing
+pub mod Telling

@@ -1,0 +1,17 @@
+pub mod Answered
+pub mod Answering
+pub mod Burials
+pub mod FlightFacts
+pub mod Follows
+pub mod GrantedScenes
+pub mod LastUses
+pub mod OpenFacts
+pub mod Places
+pub mod PublicCounts
+pub mod RenderFacts
+pub mod Sizes
+pub mod Stays
+pub mod Typed
+pub mod UseFacts
+pub mod Values
+pub mod WorldFacts

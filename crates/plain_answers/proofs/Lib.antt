@@ -1,4 +1,0 @@
-pub mod Answering
-pub mod Bounded
-pub mod Cleaned
-pub mod Corners
