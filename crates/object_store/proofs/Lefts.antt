@@ -13,7 +13,7 @@ use Rattle.handle_table.specs.HandleMaps.{HandleMap, RiseWithin}
 use Rattle.ref_counts.specs.CountMaps.{CountMap}
 use Rattle.array_objects.specs.Stores.{Arrays, array_at}
 use Rattle.seq_model.proofs.Keys.{RisesWithin, all_from_at, at_filter, rises_filtered}
-use Rattle.seq_model.proofs.Ranked.{IsRanked}
+use Rattle.seq_model.specs.Soundness.{IsRanked}
 use Rattle.seq_model.specs.Life.{is_root, live, loan_count}
 use Rattle.seq_model.specs.State.{Object}
 use Rattle.object_store.specs.Gathers.{IsLeft, buried, root_in}

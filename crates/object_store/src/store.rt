@@ -58,7 +58,7 @@ impl Store {
     ghost use Rattle.seq_model.specs.Refusals.{is_array_loan_out};
     ghost use Rattle.object_store.specs.Parts.{array_of, at, block_of, memory_in, memory_of, named_in_block, named_with};
     ghost use Rattle.object_store.specs.Gathers.{IsLeft, buried};
-    ghost use Rattle.seq_model.proofs.Ranked.{IsRanked};
+    ghost use Rattle.seq_model.specs.Soundness.{IsRanked};
 
     /// A store without objects, which takes no memory.
     pub fn new(alloc: Global) -> Store
