@@ -11,8 +11,8 @@ ghost use Rattle.seq_model.specs.Contents.{bytes_for_array, bytes_for_parameter,
 ghost use Rattle.seq_model.specs.Refusals.{is_array_loan_out, is_parameter_loan_out};
 ghost use Rattle.seq_model.specs.Steps.{zeros};
 
+use kind_tables::object_in;
 use crate::asked::elements_at;
-use crate::elements::object_in;
 use crate::owners::has_type;
 use crate::standing::Standing;
 use dev_types::{Bytes, DataType, Handle, Name, NoMemory, Value, size_of};

@@ -7,7 +7,8 @@ use Rattle.ref_counts.specs.CountMaps.{CountMap, counts_at, named_at}
 use Rattle.array_objects.specs.Stores.{Arrays, ChangesAt as ArraysChange, array_at, block_at, elements_of}
 use Rattle.array_objects.specs.declared.arrays.Array.{Array}
 use Rattle.array_objects.specs.declared.arrays.Block.{Block}
-use Rattle.seq_model.specs.Life.{loan_count, names_of, times}
+use Rattle.seq_model.specs.Life.{loan_count, names_of}
+use Rattle.dev_types.specs.Counting.{times}
 use Rattle.seq_model.specs.State.{Object, with_object}
 use Rattle.object_store.specs.Kept.{AreParts, IsShort, Stops, stored}
 use Rattle.object_store.specs.Moves.{Moves}

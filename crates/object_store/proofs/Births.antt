@@ -10,7 +10,8 @@ use Rattle.ref_counts.specs.CountMaps.{ChangesAt, CountMap, counts_at, named_at,
 use Rattle.array_objects.specs.Stores.{Arrays, array_at}
 use Rattle.array_objects.specs.declared.arrays.Array.{Array}
 use Rattle.seq_model.proofs.Keys.{RisesWithin, nothing_outside, rises_with_next}
-use Rattle.seq_model.specs.Life.{loan_count, names_of, times}
+use Rattle.seq_model.specs.Life.{loan_count, names_of}
+use Rattle.dev_types.specs.Counting.{times}
 use Rattle.seq_model.specs.State.{with_object}
 use Rattle.seq_model.specs.Steps.{fresh}
 use Rattle.object_store.specs.Kept.{AreCounted, AreParts, IsShort, Stops, stored}

@@ -13,7 +13,8 @@ use Rattle.ref_counts.specs.CountMaps.{CountMap, counts_at, named_at, public_at}
 use Rattle.array_objects.specs.Stores.{Arrays, ChangesAt as ArraysChange, array_at, block_at, loan_at, loan_of, mapped}
 use Rattle.array_objects.specs.declared.arrays.Array.{Array}
 use Rattle.seq_model.proofs.Keys.{RisesWithin, at_changed, at_unchanged, at_within, key_here, key_is_other}
-use Rattle.seq_model.specs.Life.{loan_count, names_of, times}
+use Rattle.seq_model.specs.Life.{loan_count, names_of}
+use Rattle.dev_types.specs.Counting.{times}
 use Rattle.seq_model.specs.State.{Object, changed_at, object_at}
 use Rattle.seq_model.specs.Steps.{change_array, lent}
 use Rattle.object_store.specs.Kept.{IsShort, AreCounted, AreParts, Stops, Stored, stored}

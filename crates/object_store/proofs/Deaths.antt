@@ -14,7 +14,8 @@ use Rattle.object_store.proofs.NamedFacts.{block_names}
 use Rattle.ref_counts.specs.CountMaps.{ChangesAt, CountMap, counts_at, named_at, public_at}
 use Rattle.array_objects.specs.Stores.{Arrays, array_at, ChangesAt as ArraysChange}
 use Rattle.seq_model.proofs.Keys.{RisesWithin, at_within}
-use Rattle.seq_model.specs.Life.{has, loan_count, names_of, times}
+use Rattle.seq_model.specs.Life.{has, loan_count, names_of}
+use Rattle.dev_types.specs.Counting.{times}
 use Rattle.seq_model.specs.State.{Object, object_at}
 use Rattle.object_store.specs.Kept.{AreCounted, AreParts, IsSettled, IsShort, IsUnheld, Stops, Stored, loans_at, names_in, number_at, stored, without}
 use Rattle.object_store.specs.Moves.{Moves}

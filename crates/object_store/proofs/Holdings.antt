@@ -12,7 +12,7 @@ use Rattle.handle_table.specs.HandleMaps.{HandleMap, value_at}
 use Rattle.array_objects.specs.Stores.{Arrays, array_at}
 use Rattle.ref_counts.specs.CountMaps.{CountMap, counts_at, named_at, public_at}
 use Rattle.seq_model.proofs.Keys.{RisesWithin, at_changed, at_unchanged, at_within}
-use Rattle.seq_model.specs.Life.{times}
+use Rattle.dev_types.specs.Counting.{times}
 use Rattle.object_store.specs.Kept.{AreCounted, AreParts, Stops, Stored, loans_at, names_in, number_at, stored}
 use Rattle.object_store.specs.Moves.{Moves, Reslots}
 use Rattle.object_store.specs.Parts.{Part, at, holds_at, joined, keyed, object_of}

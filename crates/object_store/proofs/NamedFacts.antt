@@ -8,7 +8,8 @@ use Rattle.std.proofs.lemmas.List.FromFn.{map-range_with_len_more}
 use Rattle.byte_view.specs.Elements.{Elements, element}
 use Rattle.kind_tables.specs.SceneObjects.{object_in}
 use Rattle.array_objects.specs.declared.arrays.Array.{Array}
-use Rattle.seq_model.specs.Life.{objects_of_elements, times}
+use Rattle.seq_model.specs.Life.{objects_of_elements}
+use Rattle.dev_types.specs.Counting.{times}
 use Rattle.object_store.specs.Parts.{array_state, named_below, named_in_block}
 use Rattle.object_store.proofs.Totals.{times_append, times_least}
 

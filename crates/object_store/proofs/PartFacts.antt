@@ -17,7 +17,8 @@ use Rattle.ref_counts.specs.CountMaps.{CountMap, counts_at, named_at, public_at}
 use Rattle.array_objects.specs.Stores.{Arrays, array_at}
 use Rattle.array_objects.specs.declared.arrays.Array.{Array}
 use Rattle.seq_model.proofs.Keys.{RisesWithin, at_changed, at_unchanged, nothing_outside}
-use Rattle.seq_model.specs.Life.{names_of, objects_of_elements, times}
+use Rattle.seq_model.specs.Life.{names_of, objects_of_elements}
+use Rattle.dev_types.specs.Counting.{times}
 use Rattle.seq_model.specs.State.{Object, changed_at, object_at}
 use Rattle.object_store.specs.Kept.{AreCounted, AreParts, Stops, Stored, loans_at, names_in, stored}
 use Rattle.object_store.specs.Moves.{Moves, Reslots, Restages}

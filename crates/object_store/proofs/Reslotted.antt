@@ -11,7 +11,8 @@ use Rattle.array_objects.specs.Stores.{Arrays, array_at}
 use Rattle.array_objects.specs.declared.arrays.Array.{Array}
 use Rattle.ref_counts.specs.CountMaps.{ChangesAt, CountMap, counts_at, named_at, public_at}
 use Rattle.seq_model.proofs.Keys.{at_within, key_here, key_is_other}
-use Rattle.seq_model.specs.Life.{loan_count, names_of, times}
+use Rattle.seq_model.specs.Life.{loan_count, names_of}
+use Rattle.dev_types.specs.Counting.{times}
 use Rattle.seq_model.specs.State.{ArrayState, Object, ParameterLoan, changed_at}
 use Rattle.dev_types.specs.declared.handles.Channel.{Channel}
 use Rattle.std.proofs.lemmas.List.{length_push}

@@ -17,7 +17,7 @@ use Rattle.array_objects.specs.Stores.{Arrays, ChangesAt as ArraysChange, array_
 use Rattle.array_objects.specs.declared.arrays.Array.{Array}
 use Rattle.array_objects.specs.declared.arrays.Block.{Block}
 use Rattle.seq_model.proofs.Keys.{at_within, key_is_other, rises_up}
-use Rattle.seq_model.specs.Life.{times}
+use Rattle.dev_types.specs.Counting.{times}
 use Rattle.seq_model.specs.State.{changed_at, object_at, with_object}
 use Rattle.seq_model.specs.Steps.{set_staged}
 use Rattle.object_store.specs.Kept.{AreCounted, AreParts, IsShort, Stops, Stored, stored}

@@ -17,7 +17,8 @@ use Rattle.array_objects.specs.Stores.{Arrays, ChangesAt as ArraysChange, Fits, 
 use Rattle.array_objects.specs.declared.arrays.Array.{Array}
 use Rattle.array_objects.specs.declared.arrays.Block.{Block}
 use Rattle.seq_model.proofs.Keys.{at_within, key_here, key_is_other}
-use Rattle.seq_model.specs.Life.{loan_count, names_of, objects_of_elements, times}
+use Rattle.seq_model.specs.Life.{loan_count, names_of, objects_of_elements}
+use Rattle.dev_types.specs.Counting.{times}
 use Rattle.seq_model.specs.Refusals.{is_array_loan_out, is_array_out}
 use Rattle.seq_model.specs.State.{ArrayState, Object, changed_at, object_at}
 use Rattle.seq_model.specs.Steps.{change_array, holding}

@@ -11,7 +11,8 @@ use Rattle.handle_table.specs.HandleMaps.{HandleMap, RiseWithin}
 use Rattle.ref_counts.specs.CountMaps.{CountMap, counts_at, entry_at, named_at, public_at}
 use Rattle.array_objects.specs.Stores.{Arrays, array_at}
 use Rattle.array_objects.specs.declared.arrays.Array.{Array}
-use Rattle.seq_model.specs.Life.{has, loan_count, names_of, times}
+use Rattle.seq_model.specs.Life.{has, loan_count, names_of}
+use Rattle.dev_types.specs.Counting.{times}
 use Rattle.seq_model.specs.State.{Object, State}
 use Rattle.object_store.specs.Parts.{Part, at, holds_at, joined, keyed}
 

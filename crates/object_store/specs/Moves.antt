@@ -4,7 +4,7 @@ use Rattle.std.specs.Option.{is_some}
 use Rattle.handle_table.specs.HandleMaps.{HandleMap, value_at, with_value}
 use Rattle.param_stage.specs.Params.{Accounts, ParamMaps}
 use Rattle.ref_counts.specs.CountMaps.{CountMap, counts_at, entry_at, named_at, public_at}
-use Rattle.seq_model.specs.Life.{times}
+use Rattle.dev_types.specs.Counting.{times}
 use Rattle.object_store.specs.Parts.{Part}
 
 -- the new counts are the old ones with so many more names, and without those that are gone

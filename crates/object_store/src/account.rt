@@ -5,11 +5,12 @@ ghost use Rattle.std.specs.Prelude.{replicate};
 ghost use Rattle.kind_tables.specs.SceneObjects.{object_in};
 ghost use Rattle.param_stage.specs.Params.{named};
 ghost use Rattle.ref_counts.specs.CountMaps.{counts_at, named_at, public_at};
-ghost use Rattle.seq_model.specs.Life.{times};
+ghost use Rattle.dev_types.specs.Counting.{times};
 ghost use Rattle.array_objects.specs.Stores.{Fits};
 ghost use Rattle.object_store.specs.Moves.{Moves};
 ghost use Rattle.object_store.specs.Parts.{named_below, named_in_block};
 
+use kind_tables::object_in;
 use array_objects::Block;
 use byte_view::Strided;
 use dev_types::{Handle, Value};
@@ -56,16 +57,6 @@ pub fn unname_params(counts: &mut Counts, params: &Params)
 {
     for i in 0..params.named_len() {
         counts.unname(params.named_at(i));
-    }
-}
-
-/// The object that a value names; handle 0 is none.
-fn object_in(value: &Value) -> Option<Handle>
-    ensures { result ≡ object_in value.now }
-{
-    match value {
-        Value::Object(_, h) if h.0 > 0 => Some(*h),
-        _ => None,
     }
 }
 

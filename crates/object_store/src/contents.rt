@@ -3,7 +3,7 @@ ghost use Rattle.std.specs.Prelude.{◌≡◌, ℕ, ◌+◌, ◌<◌, ◌≤◌,
 ghost use Rattle.dev_types.specs.Blocks.{FitsBlock};
 ghost use Rattle.array_objects.specs.Stores.{ChangesAt, Fits, block_at};
 ghost use Rattle.ref_counts.specs.CountMaps.{counts_at, named_at};
-ghost use Rattle.seq_model.specs.Life.{times};
+ghost use Rattle.dev_types.specs.Counting.{times};
 ghost use Rattle.object_store.specs.Moves.{Moves};
 ghost use Rattle.object_store.specs.Parts.{named_in_block, with_content};
 

@@ -54,7 +54,7 @@ impl Model for Store {
 impl Store {
     ghost use Rattle.object_store.specs.Kept.{IsSettled, IsUnmapRefusal, IsUnheld, number_at, without};
     ghost use Rattle.array_objects.specs.Stores.{Fits};
-    ghost use Rattle.seq_model.specs.Life.{times};
+    ghost use Rattle.dev_types.specs.Counting.{times};
     ghost use Rattle.seq_model.specs.Refusals.{is_array_loan_out};
     ghost use Rattle.object_store.specs.Parts.{array_of, at, block_of, memory_in, memory_of, named_in_block, named_with};
     ghost use Rattle.object_store.specs.Gathers.{IsLeft, buried};

@@ -3,7 +3,7 @@ use Rattle.std.specs.Option.{option_to_list}
 use Rattle.byte_view.specs.Elements.{element}
 use Rattle.kind_tables.specs.SceneObjects.{object_in}
 use Rattle.ref_counts.specs.CountMaps.{named_at}
-use Rattle.seq_model.specs.Life.{times}
+use Rattle.dev_types.specs.Counting.{times}
 use Rattle.object_store.specs.Moves.{Moves}
 use Rattle.object_store.specs.Parts.{named_below}
 use Rattle.object_store.proofs.MoveFacts.{moves_both, moves_none}

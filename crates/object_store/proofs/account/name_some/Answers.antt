@@ -1,7 +1,7 @@
 use Rattle.std.proofs.Common.{◌≡◌, ◌∙◌, [], ap, refl, sym, subst, arith}
 use Rattle.std.specs.Option.{IsSome, option_to_list}
 use Rattle.ref_counts.specs.CountMaps.{counts_at}
-use Rattle.seq_model.specs.Life.{times}
+use Rattle.dev_types.specs.Counting.{times}
 use Rattle.object_store.specs.Moves.{Moves}
 use Rattle.object_store.proofs.MoveFacts.{moves_named, moves_none, once}
 use Rattle.object_store.proofs.account.name_some.Goals as goal

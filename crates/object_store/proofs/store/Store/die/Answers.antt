@@ -3,7 +3,8 @@ use Rattle.std.specs.Option.{IsSome}
 use Rattle.param_stage.specs.Params.{named}
 use Rattle.array_objects.specs.Stores.{array_at}
 use Rattle.ref_counts.specs.CountMaps.{CountMap, named_at}
-use Rattle.seq_model.specs.Life.{names_of, times}
+use Rattle.seq_model.specs.Life.{names_of}
+use Rattle.dev_types.specs.Counting.{times}
 use Rattle.object_store.specs.Kept.{IsSettled, IsUnheld, Stored, stored, without}
 use Rattle.object_store.specs.Moves.{Moves}
 use Rattle.object_store.specs.Parts.{named_in_block, object_of}

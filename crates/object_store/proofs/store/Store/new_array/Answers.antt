@@ -5,7 +5,7 @@ use Rattle.handle_table.specs.HandleMaps.{HandleMap}
 use Rattle.ref_counts.specs.CountMaps.{counts_at}
 use Rattle.array_objects.specs.Stores.{ChangesAt as ArraysChange, block_at}
 use Rattle.array_objects.specs.declared.arrays.Array.{Array}
-use Rattle.seq_model.specs.Life.{times}
+use Rattle.dev_types.specs.Counting.{times}
 use Rattle.seq_model.specs.State.{object_at, with_object}
 use Rattle.object_store.specs.Kept.{Stored, stored}
 use Rattle.object_store.specs.Moves.{Moves}

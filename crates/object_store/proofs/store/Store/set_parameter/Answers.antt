@@ -2,7 +2,7 @@ use Rattle.std.proofs.Common.{ℕ, ◌+◌, ◌≡◌, ◌<◌, ◌≤◌, List,
 use Rattle.std.specs.Option.{IsSome, MatchOption, option_to_list}
 use Rattle.dev_types.specs.declared.values.Value.{Value}
 use Rattle.kind_tables.specs.SceneObjects.{object_in, with_value}
-use Rattle.seq_model.specs.Life.{times}
+use Rattle.dev_types.specs.Counting.{times}
 use Rattle.seq_model.specs.State.{changed_at, object_at}
 use Rattle.seq_model.specs.Steps.{set_staged}
 use Rattle.object_store.specs.Kept.{Stored, stored}

@@ -2,7 +2,7 @@ use Rattle.std.proofs.Common.{◌-◌, ◌≡◌, ◌∙◌, ◌∷◌, [], ap, 
 use Rattle.std.specs.BTreeMap.{is_at}
 use Rattle.std.specs.Map.{set_value}
 use Rattle.std.specs.Ordering.{nat_cmp}
-use Rattle.seq_model.specs.Life.{times}
+use Rattle.dev_types.specs.Counting.{times}
 use Rattle.object_store.specs.Kept.{Stored, number_at, stored}
 use Rattle.object_store.specs.Parts.{unhold_in, holds_at}
 use Rattle.object_store.proofs.Holdings.{held_at, held_by, held_is_named, held_is_there, parts_held, stored_held}

@@ -5,7 +5,7 @@ use Rattle.handle_table.specs.HandleMaps.{value_at}
 use Rattle.object_store.proofs.Counted.{none_by}
 use Rattle.ref_counts.specs.CountMaps.{ChangesAt, counts_at, named_at, public_at}
 use Rattle.array_objects.specs.Stores.{Fits, IsOut, array_at, block_at}
-use Rattle.seq_model.specs.Life.{times}
+use Rattle.dev_types.specs.Counting.{times}
 use Rattle.seq_model.specs.State.{changed_at, object_at}
 use Rattle.seq_model.specs.Steps.{change_array, holding}
 use Rattle.object_store.specs.Kept.{Stored, stored}
