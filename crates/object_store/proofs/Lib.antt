@@ -17,5 +17,6 @@ pub mod References
 pub mod Removed
 pub mod Reslotted
 pub mod StagedArrays
+pub mod TakenIn
 pub mod Totals
 pub mod Unmaps

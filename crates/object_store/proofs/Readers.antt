@@ -3,14 +3,14 @@ use Rattle.std.proofs.Common.{ℕ, ◌≡◌, ◌∙◌, Bool, true, false, List
 use Rattle.std.specs.Option.{is_some, option_and_then, option_map, option_map_or}
 use Rattle.handle_table.specs.HandleMaps.{HandleMap, value_at}
 use Rattle.kind_tables.specs.SceneObjects.{Block, SceneObject, object_at as scene_at, value_named}
-use Rattle.ref_counts.specs.CountMaps.{CountMap}
+use Rattle.ref_counts.specs.CountMaps.{CountMap, public_at}
 use Rattle.array_objects.specs.Stores.{Arrays, array_at, elements_of, loan_of}
 use Rattle.array_objects.specs.declared.arrays.Array.{Array}
 use Rattle.byte_view.specs.Elements.{Elements}
 use Rattle.scene_read.specs.Reading.{content_of, lent as lent_block}
 use Rattle.seq_model.specs.State.{ArrayState, Object, State, array_loan, object_at, scene_object, scene_objects}
 use Rattle.object_store.specs.Kept.{Stops, Stored, stored}
-use Rattle.object_store.specs.Parts.{Part, array_state, object_of}
+use Rattle.object_store.specs.Parts.{Part, array_state, at, object_of}
 use Rattle.object_store.proofs.Counted.{none_by}
 use Rattle.object_store.proofs.Keyed.{at_keyed}
 use Rattle.object_store.proofs.PartFacts.{looked}
@@ -94,3 +94,29 @@ mapped_seen s h = ap (λ x. option_map_or (λ (o : SceneObject). o.mapped) x fal
     by : (x : Option Object) → option_map_or (λ (o : SceneObject). o.mapped) (option_map scene_object x) false ≡ is_some (option_and_then array_loan x)
     by None = refl
     by (Some o) = refl
+
+-- public references are told of who is there
+public_at_part : (s : Stored) (slots : HandleMap Part) (arrays : Arrays) (counts : CountMap) (stopped : Stops) (h : ℕ) → stored slots arrays counts stopped ≡ s →
+    at h s.public ≡ option_map (λ (p : Part). public_at counts h) (value_at slots h)
+public_at_part s slots arrays counts stopped h same = sym (ap (λ (s : Stored). at h s.public) same) ∙ at_keyed (λ k (p : Part). public_at counts k) h slots.entries
+
+pub no_public : (s : Stored) (slots : HandleMap Part) (arrays : Arrays) (counts : CountMap) (stopped : Stops) (h : ℕ) → stored slots arrays counts stopped ≡ s →
+    is_some (value_at slots h) ≡ false → at h s.public ≡ None
+no_public s slots arrays counts stopped h same gone =
+    public_at_part s slots arrays counts stopped h same ∙ ap (option_map (λ (p : Part). public_at counts h)) (none_by (value_at slots h) gone)
+
+pub public_read : (s : Stored) (slots : HandleMap Part) (arrays : Arrays) (counts : CountMap) (stopped : Stops) (h : ℕ) → stored slots arrays counts stopped ≡ s →
+    is_some (value_at slots h) ≡ true → at h s.public ≡ Some (public_at counts h)
+public_read s slots arrays counts stopped h same there = public_at_part s slots arrays counts stopped h same ∙ by (value_at slots h) there
+  where
+    by : (x : Option Part) → is_some x ≡ true → option_map (λ (p : Part). public_at counts h) x ≡ Some (public_at counts h)
+    by None is = absurd cc
+    by (Some part) is = refl
+
+pub object_is_there : (s : Stored) (slots : HandleMap Part) (arrays : Arrays) (counts : CountMap) (stopped : Stops) (h : ℕ) → stored slots arrays counts stopped ≡ s →
+    is_some (object_at s.state h) ≡ is_some (value_at slots h)
+object_is_there s slots arrays counts stopped h same = ap is_some (looked s slots arrays counts stopped h same) ∙ by (value_at slots h)
+  where
+    by : (x : Option Part) → is_some (option_map (λ part. object_of part (array_at arrays h)) x) ≡ is_some x
+    by None = refl
+    by (Some part) = refl

@@ -4,7 +4,7 @@ ghost use Rattle.std.specs.Option.{option_to_list};
 ghost use Rattle.std.specs.Prelude.{replicate};
 ghost use Rattle.kind_tables.specs.SceneObjects.{object_in};
 ghost use Rattle.param_stage.specs.Params.{named};
-ghost use Rattle.ref_counts.specs.CountMaps.{counts_at, named_at};
+ghost use Rattle.ref_counts.specs.CountMaps.{counts_at, named_at, public_at};
 ghost use Rattle.dev_types.specs.Counting.{times};
 ghost use Rattle.array_objects.specs.Stores.{Fits};
 ghost use Rattle.object_store.specs.Moves.{Moves};
@@ -42,7 +42,8 @@ pub fn unname_all(counts: &mut Counts, list: &HandleList)
 pub fn account(counts: &mut Counts, told: &Named)
     requires there { (h : ℕ) → 0 < times h told.now.added → IsSome (counts_at counts.old h) }
     requires fits { (h : ℕ) → named_at counts.old h + length told.now.added ≤ 2 ^ 63 }
-    requires named { (h : ℕ) → times h told.now.gone ≤ named_at counts.old h + times h told.now.added }
+    requires named { (h : ℕ) → times h told.now.gone ≤ named_at counts.old h + times h
+        told.now.added }
     ensures { Moves counts.old counts.new told.now.added told.now.gone }
 {
     name_all(counts, &told.added);
@@ -92,7 +93,8 @@ fn name_some(counts: &mut Counts, object: Option<Handle>)
 
 /// Each object that these elements name is named once more for each of them.
 pub fn name_elements(counts: &mut Counts, elements: &Strided<'_>)
-    requires there { (h : ℕ) → 0 < times h (named_below elements.now elements.now.count) → IsSome (counts_at counts.old h) }
+    requires there { (h : ℕ) → 0 < times h (named_below elements.now elements.now.count) → IsSome
+        (counts_at counts.old h) }
     requires fits { (h : ℕ) → named_at counts.old h + elements.now.count ≤ 2 ^ 63 }
     ensures { Moves counts.old counts.new (named_below elements.now elements.now.count) [] }
 {
@@ -103,7 +105,8 @@ pub fn name_elements(counts: &mut Counts, elements: &Strided<'_>)
 
 /// Each object that these elements name is named once less for each of them.
 pub fn unname_elements(counts: &mut Counts, elements: &Strided<'_>)
-    requires { (h : ℕ) → times h (named_below elements.now elements.now.count) ≤ named_at counts.old h }
+    requires { (h : ℕ) → times h (named_below elements.now elements.now.count) ≤ named_at counts.old
+        h }
     ensures { Moves counts.old counts.new [] (named_below elements.now elements.now.count) }
 {
     for i in 0..elements.len() {
@@ -126,9 +129,20 @@ pub fn unname_block(counts: &mut Counts, block: &Option<Block>)
 /// Each object that an object with these parameters and this block names is named less.
 pub fn unname_object(counts: &mut Counts, params: &Params, block: &Option<Block>)
     requires fits { IfSome block.now Fits }
-    requires named { (h : ℕ) → times h (named params.now ++ named_in_block block.now) ≤ named_at counts.old h }
+    requires named { (h : ℕ) → times h (named params.now ++ named_in_block block.now) ≤ named_at
+        counts.old h }
     ensures { Moves counts.old counts.new [] (named params.now ++ named_in_block block.now) }
 {
     unname_params(counts, params);
     unname_block(counts, block);
+}
+
+/// The public references to an object; 0 where it has no counts.
+pub fn public_of(counts: &Counts, h: Handle) -> u64
+    ensures { result ≡ public_at counts.now h }
+{
+    match counts.counts(h) {
+        Some((public, _)) => public,
+        None => 0,
+    }
 }

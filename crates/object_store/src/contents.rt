@@ -33,8 +33,10 @@ pub fn bytes_at(arrays: &ArrayStore, h: Handle) -> Option<&Bytes>
 
 /// Each object that the elements of an array name is named once more for each of them.
 pub fn name_content(counts: &mut Counts, arrays: &ArrayStore, h: Handle)
-    requires there { (k : ℕ) → 0 < times k (named_in_block (block_at arrays.now h)) → IsSome (counts_at counts.old k) }
-    requires fits { IfSome (block_at arrays.now h) (λ b. (k : ℕ) → named_at counts.old k + b.count ≤ 2 ^ 63) }
+    requires there { (k : ℕ) → 0 < times k (named_in_block (block_at arrays.now h)) → IsSome
+        (counts_at counts.old k) }
+    requires fits { IfSome (block_at arrays.now h) (λ b. (k : ℕ) → named_at counts.old k + b.count ≤
+        2 ^ 63) }
     ensures { Moves counts.old counts.new (named_in_block (block_at arrays.now h)) [] }
 {
     if let Some(elements) = arrays.view(h) {
@@ -42,11 +44,15 @@ pub fn name_content(counts: &mut Counts, arrays: &ArrayStore, h: Handle)
     }
 }
 
-/// Each object that the elements of an array named, when it had these bytes, is named once less for each of them.
+/// Each object that the elements of an array named, when it had these bytes, is named once less for
+/// each of them.
 pub fn unname_content(counts: &mut Counts, arrays: &ArrayStore, h: Handle, old: &Bytes)
-    requires fits { IfSome (block_at arrays.now h) (λ b. FitsBlock b.ty b.stride b.count (length old.now)) }
-    requires named { (k : ℕ) → times k (named_in_block (option_map (with_content old.now) (block_at arrays.now h))) ≤ named_at counts.old k }
-    ensures { Moves counts.old counts.new [] (named_in_block (option_map (with_content old.now) (block_at arrays.now h))) }
+    requires fits { IfSome (block_at arrays.now h) (λ b. FitsBlock b.ty b.stride b.count (length
+        old.now)) }
+    requires named { (k : ℕ) → times k (named_in_block (option_map (with_content old.now) (block_at
+        arrays.now h))) ≤ named_at counts.old k }
+    ensures { Moves counts.old counts.new [] (named_in_block (option_map (with_content old.now)
+        (block_at arrays.now h))) }
 {
     if let Some(block) = arrays.block(h) {
         let elements = Strided::over(old.as_slice(), block.ty, block.stride, block.count);

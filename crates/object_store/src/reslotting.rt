@@ -37,11 +37,13 @@ pub fn map_channel_at(
     slot.map_channel(channel, number)
 }
 
-/// The channels with this number, of the frame with this handle, which is there, are mapped no more; tells how many they were.
+/// The channels with this number, of the frame with this handle, which is there, are mapped no
+/// more; tells how many they were.
 pub fn unmap_channel_at(slots: &mut Table<Slot>, h: Handle, number: u64) -> u64
     requires { IsSome (value_at slots.old h) }
     ensures changes { Reslots slots.old slots.new h (unmap_in number) }
-    ensures count { IfSome (value_at slots.old h) (λ p. result + length (unmap_in number p).channels ≡ length p.channels) }
+    ensures count { IfSome (value_at slots.old h) (λ p. result + length (unmap_in number p).channels
+        ≡ length p.channels) }
 {
     let Some(slot) = slots.get_mut(h) else {
         unreachable!();
@@ -61,12 +63,13 @@ pub fn lend_at(slots: &mut Table<Slot>, h: Handle, loan: ParameterLoan) -> Resul
     slot.lend(loan)
 }
 
-/// The arrays with this number, that are written for parameters of the object with this handle, which is there, are written no more; tells
-/// how many they were.
+/// The arrays with this number, that are written for parameters of the object with this handle,
+/// which is there, are written no more; tells how many they were.
 pub fn end_loan_at(slots: &mut Table<Slot>, h: Handle, number: u64) -> u64
     requires { IsSome (value_at slots.old h) }
     ensures changes { Reslots slots.old slots.new h (end_in number) }
-    ensures count { IfSome (value_at slots.old h) (λ p. result + length (end_in number p).loans ≡ length p.loans) }
+    ensures count { IfSome (value_at slots.old h) (λ p. result + length (end_in number p).loans ≡
+        length p.loans) }
 {
     let Some(slot) = slots.get_mut(h) else {
         unreachable!();

@@ -94,6 +94,24 @@ impl Slot {
         self.shows
     }
 
+    pub fn channels(&self) -> &[(Channel, u64)]
+        ensures { result.now ≡ self.now.channels }
+    {
+        &self.channels
+    }
+
+    pub fn loans(&self) -> &[ParameterLoan]
+        ensures { result.now ≡ self.now.loans }
+    {
+        &self.loans
+    }
+
+    pub fn holds(&self) -> u64
+        ensures { result ≡ self.now.holds }
+    {
+        self.holds
+    }
+
     pub fn params(&self) -> &Params
         ensures { result.now ≡ self.now.params }
     {
@@ -109,9 +127,13 @@ impl Slot {
 
     /// Stages a value.
     pub fn set(&mut self, alloc: Global, name: &Name, v: &Value) -> Result<Named, NoMemory>
-        ensures part { OnOk result (self.new ≡ record self.old { params = set_in name.now v.now self.old.params }) }
+        ensures part { OnOk result (self.new ≡ record self.old {
+          params = set_in name.now v.now
+              self.old.params;
+        }) }
         ensures added { IfOk result (λ told. told.added ≡ option_to_list (object_in v.now)) }
-        ensures counts { IfOk result (λ told. Accounts self.old.params self.new.params told.added told.gone) }
+        ensures counts { IfOk result (λ told. Accounts self.old.params self.new.params told.added
+            told.gone) }
         ensures err { OnErr result (self.new ≡ self.old) }
     {
         self.params.set(alloc, name, v)
@@ -119,9 +141,13 @@ impl Slot {
 
     /// Takes a staged value away.
     pub fn unset(&mut self, alloc: Global, name: &Name) -> Result<Named, NoMemory>
-        ensures part { OnOk result (self.new ≡ record self.old { params = unset_in name.now self.old.params }) }
+        ensures part { OnOk result (self.new ≡ record self.old {
+          params = unset_in name.now
+              self.old.params;
+        }) }
         ensures added { IfOk result (λ told. told.added ≡ []) }
-        ensures counts { IfOk result (λ told. Accounts self.old.params self.new.params told.added told.gone) }
+        ensures counts { IfOk result (λ told. Accounts self.old.params self.new.params told.added
+            told.gone) }
         ensures err { OnErr result (self.new ≡ self.old) }
     {
         self.params.unset(alloc, name)
@@ -129,9 +155,13 @@ impl Slot {
 
     /// Takes all staged values away.
     pub fn unset_all(&mut self, alloc: Global) -> Result<Named, NoMemory>
-        ensures part { OnOk result (self.new ≡ record self.old { params = unset_all_in self.old.params }) }
+        ensures part { OnOk result (self.new ≡ record self.old {
+          params = unset_all_in
+              self.old.params;
+        }) }
         ensures added { IfOk result (λ told. told.added ≡ []) }
-        ensures counts { IfOk result (λ told. Accounts self.old.params self.new.params told.added told.gone) }
+        ensures counts { IfOk result (λ told. Accounts self.old.params self.new.params told.added
+            told.gone) }
         ensures err { OnErr result (self.new ≡ self.old) }
     {
         self.params.unset_all(alloc)
@@ -139,9 +169,12 @@ impl Slot {
 
     /// Makes the committed values the staged ones.
     pub fn commit(&mut self, alloc: Global) -> Result<Named, NoMemory>
-        ensures part { OnOk result (self.new ≡ record self.old { params = commit_in self.old.params }) }
+        ensures part { OnOk result (self.new ≡ record self.old {
+          params = commit_in self.old.params;
+        }) }
         ensures added { IfOk result (λ told. told.added ≡ objects_of self.old.params.staged) }
-        ensures counts { IfOk result (λ told. Accounts self.old.params self.new.params told.added told.gone) }
+        ensures counts { IfOk result (λ told. Accounts self.old.params self.new.params told.added
+            told.gone) }
         ensures err { OnErr result (self.new ≡ self.old) }
     {
         self.params.commit(alloc)

@@ -22,7 +22,8 @@ pub fn set_at(
     v: &Value,
 ) -> Result<Named, NoMemory>
     requires { IsSome (value_at slots.old h) }
-    ensures changes { IfOk result (λ told. Restages slots.old slots.new h (set_in name.now v.now) told.added told.gone) }
+    ensures changes { IfOk result (λ told. Restages slots.old slots.new h (set_in name.now v.now)
+        told.added told.gone) }
     ensures added { IfOk result (λ told. told.added ≡ option_to_list (object_in v.now)) }
     ensures err { OnErr result (slots.new ≡ slots.old) }
 {
@@ -40,7 +41,8 @@ pub fn unset_at(
     name: &Name,
 ) -> Result<Named, NoMemory>
     requires { IsSome (value_at slots.old h) }
-    ensures changes { IfOk result (λ told. Restages slots.old slots.new h (unset_in name.now) told.added told.gone) }
+    ensures changes { IfOk result (λ told. Restages slots.old slots.new h (unset_in name.now)
+        told.added told.gone) }
     ensures added { IfOk result (λ told. told.added ≡ []) }
     ensures err { OnErr result (slots.new ≡ slots.old) }
 {
@@ -53,7 +55,8 @@ pub fn unset_at(
 /// Takes all staged values of the object with this handle away, which is there.
 pub fn unset_all_at(slots: &mut Table<Slot>, alloc: Global, h: Handle) -> Result<Named, NoMemory>
     requires { IsSome (value_at slots.old h) }
-    ensures changes { IfOk result (λ told. Restages slots.old slots.new h unset_all_in told.added told.gone) }
+    ensures changes { IfOk result (λ told. Restages slots.old slots.new h unset_all_in told.added
+        told.gone) }
     ensures added { IfOk result (λ told. told.added ≡ []) }
     ensures err { OnErr result (slots.new ≡ slots.old) }
 {
@@ -66,8 +69,10 @@ pub fn unset_all_at(slots: &mut Table<Slot>, alloc: Global, h: Handle) -> Result
 /// Makes the committed values the staged ones, for the object with this handle, which is there.
 pub fn commit_at(slots: &mut Table<Slot>, alloc: Global, h: Handle) -> Result<Named, NoMemory>
     requires { IsSome (value_at slots.old h) }
-    ensures changes { IfOk result (λ told. Restages slots.old slots.new h commit_in told.added told.gone) }
-    ensures added { IfOk result (λ told. IfSome (value_at slots.old h) (λ part. told.added ≡ objects_of part.params.staged)) }
+    ensures changes { IfOk result (λ told. Restages slots.old slots.new h commit_in told.added
+        told.gone) }
+    ensures added { IfOk result (λ told. IfSome (value_at slots.old h) (λ part. told.added ≡
+        objects_of part.params.staged)) }
     ensures err { OnErr result (slots.new ≡ slots.old) }
 {
     let Some(slot) = slots.get_mut(h) else {

@@ -61,7 +61,10 @@ impl Stops {
 
     /// The flight with this ticket has left.
     pub fn remove(&mut self, ticket: u64)
-        ensures { self.new ≡ record self.old { tickets = filter (λ u. not (u == ticket)) self.old.tickets } }
+        ensures { self.new ≡ record self.old {
+          tickets = filter (λ u. not (u == ticket))
+              self.old.tickets;
+        } }
     {
         drop_ticket(&mut self.tickets, ticket);
     }

@@ -4,7 +4,7 @@ ghost use Rattle.std.specs.Prelude.{◌≡◌, ◌==◌, ◌∷◌, ◌++◌, �
 ghost use Rattle.std.specs.BTreeMap.{is_at};
 ghost use Rattle.std.specs.Map.{set_value};
 ghost use Rattle.std.specs.Ordering.{nat_cmp};
-ghost use Rattle.std.specs.Option.{MatchOption, option_and_then, option_map, option_map_or};
+ghost use Rattle.std.specs.Option.{MatchOption, is_some, option_and_then, option_map, option_map_or};
 ghost use Rattle.kind_tables.specs.SceneObjects.{object_in, value_named, with_value, without_value};
 ghost use Rattle.seq_model.specs.State.{Empty, array_loan, changed_at, empty, object_at, with_object};
 ghost use Rattle.seq_model.specs.Steps.{change_array, commit, discard, end_parameter_loan, fresh, holding, lend_parameter, lent, map_channel, set_phase, set_staged, unmap_channel};
@@ -13,7 +13,7 @@ ghost use Rattle.dev_types.specs.declared.data_types.DataType.TheVariants as ty;
 ghost use Rattle.dev_types.specs.declared.values.Value.TheVariants as value;
 ghost use Rattle.scene_read.specs.Reading.{lent as lent_block};
 
-use crate::account::{account, unname_object, unname_times};
+use crate::account::{account, public_of, unname_object, unname_times};
 use crate::contents::{bytes_at, elements_len, name_content, taken_back, unname_content};
 use crate::reslotting::{
     end_loan_at, hold_at, lend_at, map_channel_at, show_at, unhold_at, unmap_channel_at,
@@ -56,7 +56,7 @@ impl Store {
     ghost use Rattle.array_objects.specs.Stores.{Fits};
     ghost use Rattle.dev_types.specs.Counting.{times};
     ghost use Rattle.seq_model.specs.Refusals.{is_array_loan_out};
-    ghost use Rattle.object_store.specs.Parts.{array_of, block_of, memory_in, memory_of, named_in_block, named_with};
+    ghost use Rattle.object_store.specs.Parts.{array_of, at, block_of, memory_in, memory_of, named_in_block, named_with};
     ghost use Rattle.object_store.specs.Gathers.{IsLeft, buried};
     ghost use Rattle.seq_model.specs.Soundness.{IsRanked};
 
@@ -83,9 +83,63 @@ impl Store {
         Some(self.slots.get(h)?.kind())
     }
 
+    /// The handle of the next object.
+    pub fn next(&self) -> Handle
+        ensures { result ≡ self.now.state.next }
+    {
+        self.slots.next()
+    }
+
+    /// The public references to an object; `None` exactly where there is no such object.
+    pub fn public(&self, h: Handle) -> Option<u64>
+        ensures value { result ≡ at h self.now.public }
+        ensures there { is_some result ≡ is_some (object_at self.now.state h) }
+    {
+        if !is_there(&self.slots, h) {
+            return None;
+        }
+        Some(public_of(&self.counts, h))
+    }
+
+    /// How many flights hold an object.
+    pub fn holds(&self, h: Handle) -> u64
+        ensures { result ≡ number_at self.now.holds h }
+    {
+        match self.slots.get(h) {
+            Some(slot) => slot.holds(),
+            None => 0,
+        }
+    }
+
+    /// The tickets of the flights that were stopped and have not left.
+    pub fn stopped(&self) -> &[u64]
+        ensures { result.now ≡ self.now.state.stopped }
+    {
+        self.stopped.tickets()
+    }
+
+    /// The channels of a frame that are mapped, each with the number of its loan; `None` exactly
+    /// where there is no such object.
+    pub fn channels(&self, h: Handle) -> Option<&[(Channel, u64)]>
+        ensures { option_map (λ c. c.now) result ≡ option_map (λ o. o.channels) (object_at
+            self.now.state h) }
+    {
+        Some(self.slots.get(h)?.channels())
+    }
+
+    /// The arrays that are written for parameters of an object; `None` exactly where there is no
+    /// such object.
+    pub fn parameter_loans(&self, h: Handle) -> Option<&[ParameterLoan]>
+        ensures { option_map (λ l. l.now) result ≡ option_map (λ o. o.parameter_loans) (object_at
+            self.now.state h) }
+    {
+        Some(self.slots.get(h)?.loans())
+    }
+
     /// The committed value of a parameter of an object, if there is one.
     pub fn committed(&self, h: Handle, name: &Name) -> Option<&Value>
-        ensures { option_copied result ≡ option_and_then (λ o. value_named name.now o.committed) (object_at self.now.state h) }
+        ensures { option_copied result ≡ option_and_then (λ o. value_named name.now o.committed)
+            (object_at self.now.state h) }
     {
         self.slots.get(h)?.committed(name)
     }
@@ -107,7 +161,8 @@ impl Store {
         Ok(())
     }
 
-    /// Makes an object of this kind, for which there is room. Its maker has a public reference to it.
+    /// Makes an object of this kind, for which there is room. Its maker has a public reference to
+    /// it.
     pub fn new_object(&mut self, alloc: Global, kind: Kind) -> Handle
         requires { self.old.ready ≡ true }
         ensures handle { result ≡ self.old.state.next }
@@ -122,8 +177,8 @@ impl Store {
         self.slots.insert(Slot::new(alloc, kind))
     }
 
-    /// Makes an array with this block of at most 2^28 elements, for which there is room. Its maker has a public reference to it; each object that its elements
-    /// name is there.
+    /// Makes an array with this block of at most 2^28 elements, for which there is room. Its maker
+    /// has a public reference to it; each object that its elements name is there.
     ///
     /// # Errors
     /// `NoMemory`; the block comes back, and all is as it was.
@@ -131,7 +186,8 @@ impl Store {
         requires room { self.old.ready ≡ true }
         requires fits { Fits block }
         requires short { block.count ≤ 2 ^ 28 }
-        requires named { (k : ℕ) → 0 < times k (named_in_block (Some block)) → IsSome (object_at self.old.state k) }
+        requires named { (k : ℕ) → 0 < times k (named_in_block (Some block)) → IsSome (object_at
+            self.old.state k) }
         ensures handle { IfOk result (λ h. h ≡ self.old.state.next) }
         ensures store { OnOk result (self.new ≡ record {
           state = with_object (array_of block) self.old.state;
@@ -154,12 +210,13 @@ impl Store {
         Ok(self.slots.insert(Slot::new(alloc, Kind::Array(ty))))
     }
 
-    /// Takes away the object with the least handle of those that nothing holds; its block comes back. `None` exactly where each
-    /// object is held. This takes no memory.
+    /// Takes away the object with the least handle of those that nothing holds; its block comes
+    /// back. `None` exactly where each object is held. This takes no memory.
     pub fn die(&mut self) -> Option<(Handle, Option<Block>)>
         ensures unheld { IfSome result (λ d. IsUnheld self.old d.0) }
         ensures gone { IfSome result (λ d. self.new ≡ without d.0 self.old) }
-        ensures block { IfSome result (λ d. memory_of d.1 ≡ memory_in (option_and_then (λ o. o.array) (object_at self.old.state d.0))) }
+        ensures block { IfSome result (λ d. memory_of d.1 ≡ memory_in (option_and_then (λ o.
+            o.array) (object_at self.old.state d.0))) }
         ensures settled { IfNone result (IsSettled self.new) }
         ensures none { IfNone result (self.new ≡ self.old) }
     {
@@ -172,7 +229,8 @@ impl Store {
         Some((h, block))
     }
 
-    /// Takes away all objects that do not live: until each that is left is held. This takes no memory.
+    /// Takes away all objects that do not live: until each that is left is held. This takes no
+    /// memory.
     pub fn gather(&mut self)
         requires { IsRanked self.old.state.objects }
         ensures state { self.new.state ≡ buried self.old }
@@ -186,7 +244,10 @@ impl Store {
     pub fn retain(&mut self, h: Handle)
         requires held { 1 ≤ number_at self.old.public h }
         requires fits { number_at self.old.public h < 2 ^ 63 }
-        ensures { self.new ≡ record self.old { public = set_value (is_at (nat_cmp h)) self.old.public (number_at self.old.public h + 1) } }
+        ensures { self.new ≡ record self.old {
+          public = set_value (is_at (nat_cmp h))
+              self.old.public (number_at self.old.public h + 1);
+        } }
     {
         self.counts.retain(h);
     }
@@ -194,7 +255,10 @@ impl Store {
     /// One public reference less to an object, which has one. It is there until the next `gather`.
     pub fn release(&mut self, h: Handle)
         requires { 1 ≤ number_at self.old.public h }
-        ensures { self.new ≡ record self.old { public = set_value (is_at (nat_cmp h)) self.old.public (number_at self.old.public h - 1) } }
+        ensures { self.new ≡ record self.old {
+          public = set_value (is_at (nat_cmp h))
+              self.old.public (number_at self.old.public h - 1);
+        } }
     {
         self.counts.release(h);
     }
@@ -205,9 +269,13 @@ impl Store {
     /// `ArrayMapped` where a loan of the array is out, else `NoMemory`; all is then as it was.
     pub fn map_array(&mut self, alloc: Global, h: Handle, number: u64) -> Result<Lent, Refused>
         requires { IsSome (option_and_then (λ o. o.array) (object_at self.old.state h)) }
-        ensures ok { OnOk result (self.new ≡ record self.old { state = changed_at h (change_array (lent number)) self.old.state }) }
+        ensures ok { OnOk result (self.new ≡ record self.old {
+          state = changed_at h (change_array
+              (lent number)) self.old.state;
+        }) }
         ensures loan { IfOk result (λ l. (l.array ≡ h) × (l.number ≡ number)) }
-        ensures content { IfOk result (λ l. IfSome (option_and_then (λ o. o.array) (object_at self.old.state h)) (λ a. block_of l.elements ≡ a.block)) }
+        ensures content { IfOk result (λ l. IfSome (option_and_then (λ o. o.array) (object_at
+            self.old.state h)) (λ a. block_of l.elements ≡ a.block)) }
         ensures err { OnErr result (self.new ≡ self.old) }
     {
         if self.bound >= MOST_NAMES {
@@ -219,17 +287,24 @@ impl Store {
         Ok(lent)
     }
 
-    /// Ends a loan of an array: the content is then these bytes, as many as the loan has. Each object that they name is there.
+    /// Ends a loan of an array: the content is then these bytes, as many as the loan has. Each
+    /// object that they name is there.
     ///
     /// # Errors
-    /// `NotMapped` exactly where no loan of this array, number and length is out, else `NoMemory`; the loan comes back, and all is as
-    /// it was.
+    /// `NotMapped` exactly where no loan of this array, number and length is out, else `NoMemory`;
+    /// the loan comes back, and all is as it was.
     pub fn unmap_array(&mut self, lent: Lent, content: Bytes) -> Result<(), (Refused, Lent)>
         requires length { length content ≡ length lent.elements.bytes }
-        requires named { (k : ℕ) → 0 < times k (named_with content (object_at self.old.state lent.array)) → IsSome (object_at self.old.state k) }
-        ensures ok { OnOk result (self.new ≡ record self.old { state = changed_at lent.array (change_array (holding content)) self.old.state }) }
-        ensures out { OnOk result (is_array_loan_out self.old.state lent.array lent.number (length content) ≡ true) }
-        ensures causes { IfErr result (λ e. IsUnmapRefusal (is_array_loan_out self.old.state lent.array lent.number (length content)) e.0) }
+        requires named { (k : ℕ) → 0 < times k (named_with content (object_at self.old.state
+            lent.array)) → IsSome (object_at self.old.state k) }
+        ensures ok { OnOk result (self.new ≡ record self.old {
+          state = changed_at lent.array
+              (change_array (holding content)) self.old.state;
+        }) }
+        ensures out { OnOk result (is_array_loan_out self.old.state lent.array lent.number (length
+            content) ≡ true) }
+        ensures causes { IfErr result (λ e. IsUnmapRefusal (is_array_loan_out self.old.state
+            lent.array lent.number (length content)) e.0) }
         ensures returned { IfErr result (λ e. e.1 ≡ lent) }
         ensures err { OnErr result (self.new ≡ self.old) }
     {
@@ -258,7 +333,10 @@ impl Store {
     /// `NoMemory`; all is then as it was.
     pub fn commit(&mut self, alloc: Global, h: Handle) -> Result<(), NoMemory>
         requires { IsSome (object_at self.old.state h) }
-        ensures ok { OnOk result (self.new ≡ record self.old { state = changed_at h commit self.old.state }) }
+        ensures ok { OnOk result (self.new ≡ record self.old {
+          state = changed_at h commit
+              self.old.state;
+        }) }
         ensures err { OnErr result (self.new ≡ self.old) }
     {
         let names = names_at(&self.slots, h);
@@ -283,8 +361,12 @@ impl Store {
         v: &Value,
     ) -> Result<(), NoMemory>
         requires there { IsSome (object_at self.old.state h) }
-        requires named { MatchOption (object_in v.now) (Unit {0}) (λ k. IsSome (object_at self.old.state k)) }
-        ensures ok { OnOk result (self.new ≡ record self.old { state = changed_at h (set_staged (with_value name.now v.now)) self.old.state }) }
+        requires named { MatchOption (object_in v.now) (Unit {0}) (λ k. IsSome (object_at
+            self.old.state k)) }
+        ensures ok { OnOk result (self.new ≡ record self.old {
+          state = changed_at h (set_staged
+              (with_value name.now v.now)) self.old.state;
+        }) }
         ensures err { OnErr result (self.new ≡ self.old) }
     {
         if self.bound >= MOST_NAMES {
@@ -302,7 +384,10 @@ impl Store {
     /// `NoMemory`; all is then as it was.
     pub fn unset_parameter(&mut self, alloc: Global, h: Handle, name: &Name) -> Result<(), NoMemory>
         requires { IsSome (object_at self.old.state h) }
-        ensures ok { OnOk result (self.new ≡ record self.old { state = changed_at h (set_staged (without_value name.now)) self.old.state }) }
+        ensures ok { OnOk result (self.new ≡ record self.old {
+          state = changed_at h (set_staged
+              (without_value name.now)) self.old.state;
+        }) }
         ensures err { OnErr result (self.new ≡ self.old) }
     {
         let told = unset_at(&mut self.slots, alloc, h, name)?;
@@ -316,7 +401,10 @@ impl Store {
     /// `NoMemory`; all is then as it was.
     pub fn unset_all(&mut self, alloc: Global, h: Handle) -> Result<(), NoMemory>
         requires { IsSome (object_at self.old.state h) }
-        ensures ok { OnOk result (self.new ≡ record self.old { state = changed_at h (set_staged (λ _. [])) self.old.state }) }
+        ensures ok { OnOk result (self.new ≡ record self.old {
+          state = changed_at h (set_staged (λ
+              _. [])) self.old.state;
+        }) }
         ensures err { OnErr result (self.new ≡ self.old) }
     {
         let told = unset_all_at(&mut self.slots, alloc, h)?;
@@ -327,7 +415,10 @@ impl Store {
     /// Lets a frame, which is there, show something else.
     pub fn show(&mut self, h: Handle, shows: Shows)
         requires { IsSome (object_at self.old.state h) }
-        ensures { self.new ≡ record self.old { state = changed_at h (set_phase (phase_of shows)) self.old.state } }
+        ensures { self.new ≡ record self.old {
+          state = changed_at h (set_phase (phase_of shows))
+              self.old.state;
+        } }
     {
         show_at(&mut self.slots, h, shows);
     }
@@ -338,7 +429,10 @@ impl Store {
     /// `NoMemory`; all is then as it was.
     pub fn map_channel(&mut self, h: Handle, channel: Channel, number: u64) -> Result<(), NoMemory>
         requires { IsSome (object_at self.old.state h) }
-        ensures ok { OnOk result (self.new ≡ record self.old { state = changed_at h (map_channel channel number) self.old.state }) }
+        ensures ok { OnOk result (self.new ≡ record self.old {
+          state = changed_at h (map_channel
+              channel number) self.old.state;
+        }) }
         ensures err { OnErr result (self.new ≡ self.old) }
     {
         if self.bound >= MOST_NAMES {
@@ -353,7 +447,10 @@ impl Store {
     /// The channels of a frame, which is there, that were mapped under a number are mapped no more.
     pub fn unmap_channel(&mut self, h: Handle, number: u64)
         requires { IsSome (object_at self.old.state h) }
-        ensures { self.new ≡ record self.old { state = changed_at h (unmap_channel number) self.old.state } }
+        ensures { self.new ≡ record self.old {
+          state = changed_at h (unmap_channel number)
+              self.old.state;
+        } }
     {
         let ended = unmap_channel_at(&mut self.slots, h, number);
         unname_times(&mut self.counts, h, ended);
@@ -365,7 +462,10 @@ impl Store {
     /// `NoMemory`; all is then as it was.
     pub fn lend_parameter(&mut self, h: Handle, loan: ParameterLoan) -> Result<(), NoMemory>
         requires { IsSome (object_at self.old.state h) }
-        ensures ok { OnOk result (self.new ≡ record self.old { state = changed_at h (lend_parameter loan) self.old.state }) }
+        ensures ok { OnOk result (self.new ≡ record self.old {
+          state = changed_at h (lend_parameter
+              loan) self.old.state;
+        }) }
         ensures err { OnErr result (self.new ≡ self.old) }
     {
         if self.bound >= MOST_NAMES {
@@ -377,17 +477,22 @@ impl Store {
         Ok(())
     }
 
-    /// The arrays that are written under a number for parameters of an object, which is there, are written no more.
+    /// The arrays that are written under a number for parameters of an object, which is there, are
+    /// written no more.
     pub fn end_parameter_loan(&mut self, h: Handle, number: u64)
         requires { IsSome (object_at self.old.state h) }
-        ensures { self.new ≡ record self.old { state = changed_at h (end_parameter_loan number) self.old.state } }
+        ensures { self.new ≡ record self.old {
+          state = changed_at h (end_parameter_loan number)
+              self.old.state;
+        } }
     {
         let ended = end_loan_at(&mut self.slots, h, number);
         unname_times(&mut self.counts, h, ended);
     }
 
-    /// Makes an array with this block of at most 2^28 elements, for which there is room, and stages it for an object, which is there, as
-    /// is each object that the elements name. It has a public reference.
+    /// Makes an array with this block of at most 2^28 elements, for which there is room, and stages
+    /// it for an object, which is there, as is each object that the elements name. It has a public
+    /// reference.
     ///
     /// # Errors
     /// `NoMemory`; the block comes back, and all is as it was.
@@ -402,10 +507,12 @@ impl Store {
         requires fits { Fits block }
         requires short { block.count ≤ 2 ^ 28 }
         requires there { IsSome (object_at self.old.state h) }
-        requires named { (k : ℕ) → 0 < times k (named_in_block (Some block)) → IsSome (object_at self.old.state k) }
+        requires named { (k : ℕ) → 0 < times k (named_in_block (Some block)) → IsSome (object_at
+            self.old.state k) }
         ensures handle { IfOk result (λ made. made ≡ self.old.state.next) }
         ensures store { OnOk result (self.new ≡ record {
-          state = changed_at h (set_staged (with_value name.now (value.Object ty.Array1D self.old.state.next))) (with_object (array_of block) self.old.state);
+          state = changed_at h (set_staged (with_value name.now (value.Object ty.Array1D
+              self.old.state.next))) (with_object (array_of block) self.old.state);
           public = self.old.public ++ (self.old.state.next, 1) ∷ [];
           holds = self.old.holds ++ (self.old.state.next, 0) ∷ [];
           ready = false;
@@ -431,11 +538,54 @@ impl Store {
         Ok(self.slots.insert(Slot::new(alloc, Kind::Array(ty))))
     }
 
+    /// The array that is written under a number for a parameter of an object, which is there, comes
+    /// back: it is a new array with this block, for which there is room, and the staged value of
+    /// the parameter, and no public reference to it is given out.
+    ///
+    /// # Errors
+    /// `NoMemory`; the block comes back, and all is as it was.
+    pub fn take_in(
+        &mut self,
+        alloc: Global,
+        h: Handle,
+        name: &Name,
+        number: u64,
+        block: Block,
+    ) -> Result<Handle, (NoMemory, Block)>
+        requires room { self.old.ready ≡ true }
+        requires fits { Fits block }
+        requires short { block.count ≤ 2 ^ 28 }
+        requires there { IsSome (object_at self.old.state h) }
+        requires named { (k : ℕ) → 0 < times k (named_in_block (Some block)) → IsSome (object_at
+            self.old.state k) }
+        ensures handle { IfOk result (λ made. made ≡ self.old.state.next) }
+        ensures store { OnOk result (self.new ≡ record {
+          state = with_object (array_of block) (changed_at h (set_staged (with_value name.now
+              (value.Object ty.Array1D self.old.state.next)))
+              (changed_at h (end_parameter_loan number) self.old.state));
+          public = self.old.public ++ (self.old.state.next, 0) ∷ [];
+          holds = self.old.holds ++ (self.old.state.next, 0) ∷ [];
+          ready = false;
+          places = self.old.places;
+        }) }
+        ensures returned { IfErr result (λ e. e.1 ≡ block) }
+        ensures err { OnErr result (self.new ≡ self.old) }
+    {
+        let _slots = &self.slots;
+        let made = self.stage_array(alloc, h, name, block)?;
+        self.end_parameter_loan(h, number);
+        self.release(made);
+        Ok(made)
+    }
+
     /// One flight more holds an object, which is there.
     pub fn hold(&mut self, h: Handle)
         requires there { IsSome (object_at self.old.state h) }
         requires few { number_at self.old.holds h < 2 ^ 40 }
-        ensures { self.new ≡ record self.old { holds = set_value (is_at (nat_cmp h)) self.old.holds (number_at self.old.holds h + 1) } }
+        ensures { self.new ≡ record self.old {
+          holds = set_value (is_at (nat_cmp h)) self.old.holds
+              (number_at self.old.holds h + 1);
+        } }
     {
         hold_at(&mut self.slots, h);
         self.counts.name(h);
@@ -444,7 +594,10 @@ impl Store {
     /// One flight less holds an object.
     pub fn unhold(&mut self, h: Handle)
         requires { 1 ≤ number_at self.old.holds h }
-        ensures { self.new ≡ record self.old { holds = set_value (is_at (nat_cmp h)) self.old.holds (number_at self.old.holds h - 1) } }
+        ensures { self.new ≡ record self.old {
+          holds = set_value (is_at (nat_cmp h)) self.old.holds
+              (number_at self.old.holds h - 1);
+        } }
     {
         unhold_at(&mut self.slots, h);
         self.counts.unname(h);
@@ -467,7 +620,12 @@ impl Store {
     /// # Errors
     /// `NoMemory`; all is then as it was, but for the room.
     pub fn stop(&mut self, ticket: u64) -> Result<(), NoMemory>
-        ensures ok { OnOk result (self.new ≡ record self.old { state = record self.old.state { stopped = self.old.state.stopped ++ ticket ∷ [] }; places = self.new.places }) }
+        ensures ok { OnOk result (self.new ≡ record self.old {
+          state = record self.old.state {
+            stopped = self.old.state.stopped ++ ticket ∷ [];
+          };
+          places = self.new.places;
+        }) }
         ensures had_room { length self.old.state.stopped < self.old.places → IsOk result }
         ensures grows { self.old.places ≤ self.new.places }
         ensures err { OnErr result (self.new ≡ record self.old { places = self.new.places }) }
@@ -477,14 +635,20 @@ impl Store {
 
     /// A flight that was stopped has left.
     pub fn let_leave(&mut self, ticket: u64)
-        ensures { self.new ≡ record self.old { state = record self.old.state { stopped = filter (λ u. not (u == ticket)) self.old.state.stopped } } }
+        ensures { self.new ≡ record self.old {
+          state = record self.old.state {
+            stopped = filter (λ
+                u. not (u == ticket)) self.old.state.stopped;
+          };
+        } }
     {
         self.stopped.remove(ticket);
     }
 
     /// The elements of an array, at most 2^28; `None` exactly where the object is none.
     pub fn content(&self, h: Handle) -> Option<Strided<'_>>
-        ensures value { result ≡ option_and_then (λ o. option_map (λ a. lent_block a.block) o.array) (object_at self.now.state h) }
+        ensures value { result ≡ option_and_then (λ o. option_map (λ a. lent_block a.block) o.array)
+            (object_at self.now.state h) }
         ensures short { IfSome result (λ e. e.count ≤ 2 ^ 28) }
     {
         if !is_there(&self.slots, h) {
@@ -495,7 +659,8 @@ impl Store {
 
     /// The bytes of an array; `None` exactly where the object is none.
     pub fn bytes(&self, h: Handle) -> Option<&Bytes>
-        ensures { option_copied result ≡ option_and_then (λ o. option_map (λ a. a.block.bytes) o.array) (object_at self.now.state h) }
+        ensures { option_copied result ≡ option_and_then (λ o. option_map (λ a. a.block.bytes)
+            o.array) (object_at self.now.state h) }
     {
         if !is_there(&self.slots, h) {
             return None;
@@ -503,7 +668,8 @@ impl Store {
         bytes_at(&self.arrays, h)
     }
 
-    /// The number of the loan of an array that is out; `None` exactly where the object is no array that is mapped.
+    /// The number of the loan of an array that is out; `None` exactly where the object is no array
+    /// that is mapped.
     pub fn array_loan(&self, h: Handle) -> Option<u64>
         ensures { result ≡ option_and_then array_loan (object_at self.now.state h) }
     {
@@ -530,7 +696,10 @@ impl Store {
     #[tactic(auto, unfolding(seq_model::specs::Steps::discard))]
     pub fn discard(&mut self, h: Handle) -> Result<(), NoMemory>
         requires { IsSome (object_at self.old.state h) }
-        ensures ok { OnOk result (self.new ≡ record self.old { state = discard h self.old.state; places = self.new.places }) }
+        ensures ok { OnOk result (self.new ≡ record self.old {
+          state = discard h self.old.state;
+          places = self.new.places;
+        }) }
         ensures had_room { length self.old.state.stopped < self.old.places → IsOk result }
         ensures grows { self.old.places ≤ self.new.places }
         ensures err { OnErr result (self.new ≡ record self.old { places = self.new.places }) }
