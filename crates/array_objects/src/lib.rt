@@ -8,8 +8,6 @@
 pub mod arrays;
 pub mod lent;
 pub mod store;
-#[cfg(test)]
-mod tests;
 
 pub use arrays::{Array, Block};
 pub use lent::Lent;

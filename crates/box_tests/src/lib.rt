@@ -3,8 +3,6 @@
 
 mod boxes;
 mod spans;
-#[cfg(test)]
-mod tests;
 
 pub use boxes::{Box3, join};
 pub use spans::{PreparedRay, span};

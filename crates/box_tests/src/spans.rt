@@ -4,11 +4,8 @@ ghost use Rattle.box_tests.specs.Boxes.{AreBounds, IsFrom};
 ghost use Rattle.box_tests.specs.Slabs.{AreSlabBounds, IsCourse, IsInverse, IsWayUp};
 
 use crate::boxes::Box3;
-use fx_math::Ray;
+use fx_math::{FARTHEST, Ray};
 use std::marker::Model;
-
-/// The greatest depth number.
-const FARTHEST: u64 = 1 << 32;
 
 /// Bounds of the depth numbers of the ray's hits inside the box: the ray's points `o + t * d` in it, for fractions `t` of at least 0
 /// with the depth number `floor(65536 * t)` of at most 2^32. None only where there is no such hit. The first bound is rounded

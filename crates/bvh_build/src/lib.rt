@@ -3,8 +3,6 @@
 
 mod centres;
 mod growth;
-#[cfg(test)]
-mod tests;
 mod trees;
 
 pub use trees::{Item, Node, Tree, build};

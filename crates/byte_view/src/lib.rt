@@ -4,8 +4,6 @@
 #![tactic(auto)]
 
 pub mod reads;
-#[cfg(test)]
-mod tests;
 pub mod writes;
 
 pub use reads::{Strided, fits_block};

@@ -1,8 +1,11 @@
 ghost use Rattle.std.specs.Prelude.{◌≡◌, ◌-◌, ◌<◌, ◌≤◌, ◌↔◌, IsTrue, IsSome, IfSome, length, drop};
 ghost use Rattle.dev_types.specs.Blocks.{FitsBlock, end_of};
+ghost use Rattle.dev_types.specs.DataTypes.{byte_size};
 ghost use Rattle.byte_view.specs.Elements.{part, element, start_of};
 
-use dev_types::{DataType, Value, read_value, size_of};
+use dev_types::{
+    DataType, Value, read_signed, read_signed_all, read_unsigned_all, read_value, size_of,
+};
 use std::marker::Model;
 
 /// The elements of an array, lent from the block that holds them (ANARI 1.0 Specification, arrays).
@@ -83,7 +86,8 @@ impl<'a> Strided<'a> {
     /// The own bytes of element `i`, lent from the block itself.
     pub fn part(&self, i: u64) -> &'a [u8]
         requires { i < self.now.count }
-        ensures { result.now ≡ part self.now i }
+        ensures value { result.now ≡ part self.now i }
+        ensures size { length result.now ≡ byte_size self.now.ty }
     {
         let start = (i * self.stride) as usize;
         let size = size_of(self.ty) as usize;
@@ -96,6 +100,43 @@ impl<'a> Strided<'a> {
         ensures { result ≡ element self.now i }
     {
         read_value(self.ty, self.part(i))
+    }
+
+    /// Element `i` of an array of scalars, in units of 1/65536, read from its bytes.
+    pub fn scalar(&self, i: u64) -> i32
+        requires typed { self.now.ty ≡ DataType.Scalar }
+        requires within { i < self.now.count }
+        ensures { element self.now i ≡ Value.Scalar result }
+    {
+        read_signed(self.part(i))
+    }
+
+    /// Element `i` of an array of three scalars each, as positions are, in units of 1/65536, read from its bytes.
+    pub fn scalars(&self, i: u64) -> [i32; 3]
+        requires typed { self.now.ty ≡ DataType.ScalarVec3 }
+        requires within { i < self.now.count }
+        ensures { element self.now i ≡ Value.ScalarVec3 result }
+    {
+        read_signed_all(self.part(i))
+    }
+
+    /// Element `i` of an array of three indices each, read from its bytes.
+    pub fn indices(&self, i: u64) -> [u32; 3]
+        requires typed { self.now.ty ≡ DataType.Uint32Vec3 }
+        requires within { i < self.now.count }
+        ensures { element self.now i ≡ Value.Uint32Vec3 result }
+    {
+        read_unsigned_all(self.part(i))
+    }
+
+    /// Element `i` of an array of four components of a byte each, read from its bytes.
+    pub fn components(&self, i: u64) -> [u8; 4]
+        requires typed { self.now.ty ≡ DataType.Ufixed8Vec4 }
+        requires within { i < self.now.count }
+        ensures { element self.now i ≡ Value.Ufixed8Vec4 result }
+    {
+        let part = self.part(i);
+        [part[0], part[1], part[2], part[3]]
     }
 
     /// The elements `i` to `j - 1`.

@@ -12,10 +12,10 @@ ghost use Rattle.seq_model.specs.Refusals.{is_array_loan_out, is_parameter_loan_
 ghost use Rattle.seq_model.specs.Steps.{zeros};
 
 use crate::asked::elements_at;
-use crate::elements::object_in;
 use crate::owners::has_type;
 use crate::standing::Standing;
 use dev_types::{Bytes, DataType, Handle, Name, NoMemory, Value, size_of};
+use kind_tables::object_in;
 use seq_model::Call;
 use std::alloc::{AllocError, Global};
 

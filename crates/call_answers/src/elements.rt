@@ -6,17 +6,8 @@ ghost use Rattle.call_answers.specs.Named.{block_of, named_below};
 
 use byte_view::Strided;
 use dev_types::{Handle, Value};
+use kind_tables::object_in;
 use std::alloc::{AllocError, Global};
-
-/// The object that a value names; handle 0 is none.
-pub fn object_in(value: &Value) -> Option<Handle>
-    ensures { result ≡ object_in value.now }
-{
-    match value {
-        Value::Object(_, h) if h.0 > 0 => Some(*h),
-        _ => None,
-    }
-}
 
 /// Adds an item, if there is one.
 fn push_some(items: &mut Vec<Handle>, item: Option<Handle>) -> Result<(), AllocError>

@@ -6,7 +6,6 @@ ghost use Rattle.scene_read.specs.Starts.{all_seen};
 ghost use Rattle.seq_model.specs.Answers.{readiness};
 ghost use Rattle.seq_model.specs.Refusals.{first_of, in_flight, is_same_channel, no_channel, no_picture, phase_at, refusals_of_map_frame, refusals_of_render, some_channel_mapped, this_channel_mapped, walk_at};
 ghost use Rattle.seq_model.specs.State.{scene_objects};
-ghost use Rattle.past_laws.specs.Prepared.{place_of_channel};
 
 use crate::owners::{dead, first_of, not_held, wrong_kind};
 use crate::shown::Shown;
@@ -23,18 +22,6 @@ fn is_mapped(channels: &[(Channel, u64)], channel: Channel) -> bool
     channels
         .iter()
         .any(|mapped| mapped.0.name() == channel.name())
-}
-
-/// The place of a channel among the four.
-fn place_of_channel(channel: Channel) -> usize
-    ensures { result ≡ place_of_channel channel }
-{
-    match channel {
-        Channel::Color => 0,
-        Channel::PrimitiveId => 1,
-        Channel::ObjectId => 2,
-        Channel::InstanceId => 3,
-    }
 }
 
 /// `InFlight` where the frame is in flight, of whose tiles none was seen finished.
@@ -66,7 +53,7 @@ fn no_channel<S: Standing>(device: &S, h: Handle, channel: Channel) -> Option<Re
 {
     match device.shows(h) {
         Shown::Picture { asked, .. } => {
-            let has_channel = asked[place_of_channel(channel)];
+            let has_channel = asked[channel.number() as usize];
             (!has_channel).then_some(Refused::NoChannel)
         }
         _ => None,

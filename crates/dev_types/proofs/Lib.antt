@@ -1,4 +1,5 @@
 pub mod BlockFacts
+pub mod SumLaws
 pub mod TextFacts
 pub mod TypeFacts
 pub mod ValueFacts

@@ -1,4 +1,5 @@
-ghost use Rattle.std.specs.Prelude.{◌≡◌, IfOk, IfErr, length};
+ghost use Rattle.std.specs.Prelude.{◌≡◌, ◌≤◌, [], IfOk, IfErr, length};
+ghost use Rattle.std.specs.Vec.{vec_capacity};
 
 use crate::handles::NoMemory;
 use std::alloc::Global;
@@ -47,4 +48,28 @@ impl Bytes {
             block: Arc::try_clone(&self.block)?,
         })
     }
+
+    /// The bytes in a `Vec`, without memory: the block's own where this is its last owner, and else copied
+    /// into `spare`, which is empty and has room for them. So who has to give a `Vec` back makes such a
+    /// spare one before it makes a block of it.
+    pub fn into_vec(self, spare: Vec<u8>) -> Vec<u8>
+        requires empty { spare.items ≡ [] }
+        requires room { length self ≤ vec_capacity spare }
+        ensures { result.items ≡ self }
+    {
+        match Arc::try_unwrap(self.block) {
+            Ok(bytes) => bytes,
+            Err(block) => copied_into(spare, block.as_slice()),
+        }
+    }
+}
+
+fn copied_into(spare: Vec<u8>, bytes: &[u8]) -> Vec<u8>
+    requires empty { spare.items ≡ [] }
+    requires room { length bytes.now ≤ vec_capacity spare }
+    ensures { result.items ≡ bytes.now }
+{
+    let mut copy = spare;
+    let _there_is_room = copy.extend_from_slice(bytes);
+    copy
 }

@@ -1,4 +1,5 @@
-ghost use Rattle.std.specs.Prelude.{◌≡◌, ℕ};
+ghost use Rattle.std.specs.Prelude.{◌≡◌, ◌<◌, ℕ};
+ghost use Rattle.dev_types.specs.Channels.{number_of_channel};
 
 use std::alloc::AllocError;
 use std::marker::Model;
@@ -49,4 +50,19 @@ pub enum Channel {
     ObjectId,
     /// The `id` of the instance.
     InstanceId,
+}
+
+impl Channel {
+    /// Its number among the four, in their order from 0.
+    pub fn number(self) -> u32
+        ensures value { result ≡ number_of_channel self }
+        ensures range { result < 4 }
+    {
+        match self {
+            Channel::Color => 0,
+            Channel::PrimitiveId => 1,
+            Channel::ObjectId => 2,
+            Channel::InstanceId => 3,
+        }
+    }
 }

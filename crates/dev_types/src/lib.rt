@@ -10,8 +10,6 @@ pub mod data_types;
 pub mod handles;
 pub mod notices;
 pub mod refusals;
-#[cfg(test)]
-mod tests;
 pub mod texts;
 pub mod values;
 pub mod words;
@@ -23,4 +21,7 @@ pub use handles::{Channel, Handle, NoMemory, Origin};
 pub use notices::{Client, Notice};
 pub use refusals::{Code, Refused, Severity, Status, code_of, severity_of};
 pub use texts::{Name, Text};
-pub use values::{Value, decode_value, encode_value, read_value, write_value};
+pub use values::{
+    Value, decode_value, encode_value, read_signed, read_signed_all, read_unsigned_all, read_value,
+    write_value,
+};

@@ -1,4 +1,4 @@
-ghost use Rattle.std.specs.Prelude.{◌≡◌, ◌+◌, ◌≤◌, ◌<◌, ℕ, List, [], ◌∷◌, ◌++◌, OnOk};
+ghost use Rattle.std.specs.Prelude.{◌≡◌, ◌+◌, ◌≤◌, ◌<◌, ℕ, List, [], ◌∷◌, ◌++◌, IsOk, OnOk};
 ghost use Rattle.dev_types.specs.declared.notices.Notice.{Notice};
 
 use crate::blocks::Bytes;
@@ -33,10 +33,11 @@ pub trait Client {
 
     ghost spare: { Self → ℕ };
 
-    /// Makes room for `n` more notices. With either answer the list stays as it was, and there is no
-    /// less room than before.
+    /// Makes room for `n` more notices. It never refuses where there is room already. With either answer
+    /// the list stays as it was, and there is no less room than before.
     fn reserve(&mut self, alloc: Global, n: u32) -> Result<(), NoMemory>
         ensures room { OnOk result (n ≤ spare self.new) }
+        ensures had_room { n ≤ spare self.old → IsOk result }
         ensures list { notices self.new ≡ notices self.old }
         ensures no_less { spare self.old ≤ spare self.new };
 

@@ -46,6 +46,17 @@ impl Name {
         })
     }
 
+    /// The name that `s` is; `new` is the test.
+    pub fn of(s: &str) -> Name
+        requires { IsTrue (is_name s.now) }
+        ensures { result ≡ s.now }
+    {
+        match Name::new(s) {
+            Some(name) => name,
+            None => unreachable!(),
+        }
+    }
+
     /// The same name once more; it takes no memory.
     pub fn copied(&self) -> Name
         ensures { result ≡ self.now }

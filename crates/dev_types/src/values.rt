@@ -206,7 +206,8 @@ fn read_unsigned(bytes: &[u8]) -> u32
     u32::from_le_bytes([bytes[0], bytes[1], bytes[2], bytes[3]])
 }
 
-fn read_signed(bytes: &[u8]) -> i32
+/// The signed number in four bytes, lowest byte first.
+pub fn read_signed(bytes: &[u8]) -> i32
     requires { length bytes.now ≡ 4 }
     ensures value { result ≡ signed_number bytes.now }
     ensures bytes { signed_bytes result ≡ bytes.now }
@@ -224,7 +225,8 @@ fn read_long(bytes: &[u8]) -> u64
     ])
 }
 
-fn read_unsigned_all<const N: usize>(bytes: &[u8]) -> [u32; N]
+/// The unsigned numbers in groups of four bytes, each with its lowest byte first.
+pub fn read_unsigned_all<const N: usize>(bytes: &[u8]) -> [u32; N]
     requires { length bytes.now ≡ 4 * N }
     ensures value { result ≡ unsigned_numbers N bytes.now }
     ensures bytes { flat_map unsigned_bytes result ≡ bytes.now }
@@ -236,7 +238,8 @@ fn read_unsigned_all<const N: usize>(bytes: &[u8]) -> [u32; N]
     numbers
 }
 
-fn read_signed_all<const N: usize>(bytes: &[u8]) -> [i32; N]
+/// The signed numbers in groups of four bytes, each with its lowest byte first.
+pub fn read_signed_all<const N: usize>(bytes: &[u8]) -> [i32; N]
     requires { length bytes.now ≡ 4 * N }
     ensures value { result ≡ signed_numbers N bytes.now }
     ensures bytes { flat_map signed_bytes result ≡ bytes.now }

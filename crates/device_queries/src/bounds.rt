@@ -15,7 +15,7 @@ ghost use Rattle.device_queries.specs.Extents.{extent_of, with_primitive, with_s
 use crate::extents::{Extent, nothing, numbers, with_shape};
 use byte_view::Strided;
 use dev_types::Handle;
-use fx_math::Mat34;
+use fx_math::{Mat34, Placing};
 use kind_tables::Kind;
 use scene_read::geometries::{count_in, sphere_at, triangle_at, triangle_count};
 use scene_read::readers::{Subject, array, scalar};
@@ -25,7 +25,7 @@ use scene_read::{Objects, Spot, Visit, Visits};
 /// The extent with the triangles of a geometry under a transform.
 fn with_triangles(
     mut extent: Extent,
-    m: &Mat34,
+    m: &Placing,
     positions: &Option<Strided<'_>>,
     indices: &Option<Strided<'_>>,
 ) -> Extent
@@ -43,7 +43,7 @@ fn with_triangles(
 /// The extent with the spheres of a geometry under a transform.
 fn with_spheres(
     mut extent: Extent,
-    m: &Mat34,
+    m: &Placing,
     positions: &Option<Strided<'_>>,
     radii: &Option<Strided<'_>>,
     common: i32,
@@ -68,15 +68,16 @@ fn with_geometry<O: Objects>(state: &O, h: Handle, m: &Mat34, extent: Extent) ->
         return extent;
     };
     let positions = array(state, h, "vertex.position");
+    let placing = Placing::new(m);
     match kind {
         Kind::GeometryTriangle => {
             let indices = array(state, h, "primitive.index");
-            with_triangles(extent, m, &positions, &indices)
+            with_triangles(extent, &placing, &positions, &indices)
         }
         Kind::GeometrySphere => {
             let radii = array(state, h, "vertex.radius");
             let common = scalar(state, &Subject::visited(h), "radius");
-            with_spheres(extent, m, &positions, &radii, common)
+            with_spheres(extent, &placing, &positions, &radii, common)
         }
         _ => extent,
     }

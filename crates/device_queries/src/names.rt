@@ -14,17 +14,6 @@ use dev_types::{DataType, Name, Names, NoMemory, ParamInfo, Refused, TypeList};
 use kind_tables::{Kind, Row, row_of};
 use std::alloc::{AllocError, Global};
 
-/// A name that stands in a table.
-fn name_of(text: &str) -> Name
-    requires { IsTrue (is_name text.now) }
-    ensures { result ≡ text.now }
-{
-    match Name::new(text) {
-        Some(name) => name,
-        None => unreachable!(),
-    }
-}
-
 /// A list of names that stand in a table.
 fn names_of(alloc: Global, texts: &[&str]) -> Result<Names, NoMemory>
     requires { IsTrue (list_all is_name (map (λ text. text.now) texts.now)) }
@@ -32,7 +21,7 @@ fn names_of(alloc: Global, texts: &[&str]) -> Result<Names, NoMemory>
 {
     let mut names = Vec::new(alloc);
     for text in texts {
-        names.push(name_of(text)).map_err(AllocError::from)?;
+        names.push(Name::of(text)).map_err(AllocError::from)?;
     }
     Ok(Names::of(names))
 }

@@ -12,15 +12,15 @@ use Rattle.dev_types.specs.declared.handles.Channel.TheVariants.{Color, Primitiv
 use Rattle.fx_math.specs.declared.scene.Scene.{Scene}
 use Rattle.seq_model.specs.Pictures.{plane_of}
 use Rattle.tile_claims.specs.declared.key.Key.{Key}
-use Rattle.tile_claims.specs.Parts.{plane, rect_of, scene_of}
+use Rattle.tile_claims.specs.Parts.{rect_of, scene_of}
+use Rattle.picture_model.specs.Pictures.{plane, in_a_row, picture, pixel, pixels_in, row_of, whole}
 use Rattle.tile_claims.specs.Pixels.{Pixels, row}
 use Rattle.tile_claims.proofs.RowLaws.{filled_rows}
-use Rattle.frame_future.specs.Channels.{place_of}
+use Rattle.dev_types.specs.Channels.{number_of_channel}
 use Rattle.frame_future.specs.Mapped.{Mapped, part_at, pixel_at}
 use Rattle.frame_future.specs.Pixels.{picture_of, AreAll}
 use Rattle.picture_model.specs.declared.records.Plane.{Plane}
 use Rattle.picture_model.specs.declared.records.Rect.{Rect}
-use Rattle.picture_model.specs.Pictures.{in_a_row, picture, pixel, pixels_in, row_of, whole}
 use Rattle.picture_model.specs.Tiles.{tile_rect, tiles_over}
 use Rattle.picture_model.proofs.PictureSizes.{length-pixel, length-in_a_row, length-picture}
 
@@ -93,13 +93,13 @@ tile_of_column w h y column l rect is =
     subst (λ (r : Rect). (r.x0 ≡ 16 * column) × (r.w ≡ min 16 (w - 16 * column)) × (r.y0 ≡ 16 * (y / 16)) × (r.h ≡ min 16 (h - 16 * (y / 16)))) (sym is)
     (rw (across, up) (refl, refl, refl, refl))
 
-pub plane_at : (c : Channel) → plane (place_of c) ≡ plane_of c
+pub plane_at : (c : Channel) → plane (number_of_channel c) ≡ plane_of c
 plane_at Color = refl
 plane_at PrimitiveId = refl
 plane_at ObjectId = refl
 plane_at InstanceId = refl
 
-pub place_within : (c : Channel) → place_of c < 4
+pub place_within : (c : Channel) → number_of_channel c < 4
 place_within Color = omega arith
 place_within PrimitiveId = omega arith
 place_within ObjectId = omega arith
@@ -108,13 +108,13 @@ place_within InstanceId = omega arith
 -- a row of a tile is the picture's
 pub tile_part : (key : Key) (tiles : List Pixels) (c : Channel) (y column tile : ℕ) (p : Pixels) → AreAll key tiles → y < key.h → 16 * column < key.w
     → tile ≡ y / 16 * tiles_over key.w + column → slice_get tiles tile ≡ Some p
-    → (y % 16 < p.h) × (row p (place_of c) (y % 16) ≡ take (4 * min 16 (key.w - 16 * column)) (drop (4 * (y * key.w + 16 * column)) (picture_of key c)))
+    → (y % 16 < p.h) × (row p (number_of_channel c) (y % 16) ≡ take (4 * min 16 (key.w - 16 * column)) (drop (4 * (y * key.w + 16 * column)) (picture_of key c)))
 tile_part key tiles c y column tile p all h w number at =
     let filled = all.filled tile p at in
     let rect : Rect = rect_of key tile in
     let place = tile_of_column key.w key.h y column w rect (ap (tile_rect key.w key.h) number) in
     let high : y % 16 < p.h = omega (arith, filled.sized.height, place.3, h) in
-    let shown = filled_rows key tile p filled (place_of c) (y % 16) (place_within c) high in
+    let shown = filled_rows key tile p filled (number_of_channel c) (y % 16) (place_within c) high in
     let line : rect.y0 + y % 16 ≡ y = omega (arith, place.2) in
     let across : 16 * column + min 16 (key.w - 16 * column) ≤ key.w = omega (arith, w) in
     (high, shown ∙ (λ i. in_a_row (λ x. pixel (scene_of key) (plane_at c i) x (line i)) (place.0 i) (place.1 i)) ∙ sym (picture_row (scene_of key) (plane_of c) (16 * column) y (min 16 (key.w - 16 * column)) h across))
@@ -136,7 +136,7 @@ tile_within key tiles y column tile all h w number =
 -- the row of a tile that is read, as the code finds it
 pub part_found : (key now : Key) (tiles : List Pixels) (w across : ℕ) (c : Channel) (y column : ℕ) (p : Pixels) → key ≡ now → w ≡ key.w → AreAll key tiles
     → across ≡ div_ceil w 16 → y < now.h → 16 * column < now.w → p ≡ get_or tiles (y / 16 * across + column) p
-    → (y % 16 < p.h) × (row p (place_of c) (y % 16) ≡ take (4 * min 16 (now.w - 16 * column)) (drop (4 * (y * now.w + 16 * column)) (picture_of now c)))
+    → (y % 16 < p.h) × (row p (number_of_channel c) (y % 16) ≡ take (4 * min 16 (now.w - 16 * column)) (drop (4 * (y * now.w + 16 * column)) (picture_of now c)))
 part_found key now tiles w across c y column p same wide all over tall within here =
     let h : y < key.h = subst (λ (k : Key). y < k.h) (sym same) tall in
     let l : 16 * column < key.w = subst (λ (k : Key). 16 * column < k.w) (sym same) within in

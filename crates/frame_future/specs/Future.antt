@@ -12,7 +12,8 @@ use Rattle.tile_claims.specs.declared.seats.Seat.{Seat}
 use Rattle.tile_claims.specs.Parts.{tiles_of}
 use Rattle.tile_claims.specs.Seats.{frame_of, view, IsSeatOf}
 use Rattle.tile_claims.specs.Views.{beside, claimed, IsAlone}
-use Rattle.frame_future.specs.Channels.{is_asked, loan_of, place_of}
+use Rattle.frame_future.specs.Channels.{is_asked, loan_of}
+use Rattle.dev_types.specs.Channels.{number_of_channel}
 use Rattle.frame_future.specs.Flights.{Flying, key_at, is_stopped, awaited, asked_at, handed_at, stopped_at}
 use Rattle.frame_future.specs.Mapped.{Mapped}
 use Rattle.frame_future.specs.Pixels.{picture_of}
@@ -159,10 +160,10 @@ pub record IsHandout (f g : Flying) (result : Result (Option (Claims × Seat)) N
 
 -- the channel of the picture is lent under the number; its loan came back
 abbrev pub lent_as : Finished → Channel → ℕ → Finished
-lent_as p c number = record p { loans = slice_set p.loans (place_of c) (Some number) }
+lent_as p c number = record p { loans = slice_set p.loans (number_of_channel c) (Some number) }
 
 abbrev pub given_back : Finished → Channel → Finished
-given_back p c = record p { loans = slice_set p.loans (place_of c) None }
+given_back p c = record p { loans = slice_set p.loans (number_of_channel c) None }
 
 -- the loan of a channel of a frame's picture ended, whoever holds it; a frame that is not done stays as it is
 abbrev pub loan_ended : Future → ℕ → Channel → Future

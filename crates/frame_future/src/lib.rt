@@ -13,8 +13,6 @@ mod laws;
 mod mapped;
 mod phase;
 mod picture;
-#[cfg(test)]
-mod tests;
 mod tiles;
 
 pub use frames::Frames;

@@ -6,7 +6,7 @@ ghost use Rattle.frame_future.specs.Channels.{is_asked, loan_of};
 ghost use Rattle.frame_future.specs.Future.{is_lent, lent_as, given_back, loan_from};
 
 use crate::mapped::MappedFrame;
-use crate::tiles::{Tiles, place_of};
+use crate::tiles::Tiles;
 use dev_types::{Channel, Handle, NoMemory};
 use std::alloc::Global;
 use std::marker::Model;
@@ -79,21 +79,21 @@ impl Picture {
     pub(crate) fn is_asked(&self, channel: Channel) -> bool
         ensures { result ≡ is_asked self.now.channels channel }
     {
-        self.channels[place_of(channel) as usize]
+        self.channels[channel.number() as usize]
     }
 
     /// Whether the channel is mapped.
     pub(crate) fn is_mapped(&self, channel: Channel) -> bool
         ensures { result ≡ is_some (loan_of self.now.loans channel) }
     {
-        self.loans[place_of(channel) as usize].is_some()
+        self.loans[channel.number() as usize].is_some()
     }
 
     /// Whether the channel is lent under this number.
     pub(crate) fn is_out(&self, channel: Channel, number: u64) -> bool
         ensures { IsTrue result ↔ (loan_of self.now.loans channel ≡ Some number) }
     {
-        self.loans[place_of(channel) as usize] == Some(number)
+        self.loans[channel.number() as usize] == Some(number)
     }
 
     /// Lends a channel under this number.
@@ -108,7 +108,7 @@ impl Picture {
         ensures refused { OnErr result (self.new ≡ self.old) }
     {
         let tiles = self.share(alloc)?;
-        self.loans[place_of(channel) as usize] = Some(number);
+        self.loans[channel.number() as usize] = Some(number);
         Ok(MappedFrame::new(self.frame, channel, number, tiles))
     }
 
@@ -116,7 +116,7 @@ impl Picture {
     pub(crate) fn take_back(&mut self, channel: Channel)
         ensures { self.new ≡ given_back self.old channel }
     {
-        self.loans[place_of(channel) as usize] = None;
+        self.loans[channel.number() as usize] = None;
     }
 
     // The tiles, shared.

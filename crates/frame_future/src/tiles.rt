@@ -2,7 +2,7 @@
 ghost use Rattle.std.specs.Prelude.{◌≡◌, ◌*◌, ◌+◌, ◌-◌, ◌/◌, ◌<◌, min, length, take, drop};
 ghost use Rattle.dev_types.specs.declared.handles.Channel.{Channel as TheChannel};
 ghost use Rattle.tile_claims.specs.Seats.{key_of};
-ghost use Rattle.frame_future.specs.Channels.{place_of};
+ghost use Rattle.dev_types.specs.Channels.{number_of_channel};
 ghost use Rattle.frame_future.specs.Pixels.{picture_of, AreAll};
 
 use dev_types::Channel;
@@ -72,19 +72,6 @@ impl Tiles {
         ensures value { result.now ≡ take (4 * min 16 (self.now.w - 16 * column)) (drop (4 * (y * self.now.w + 16 * column)) (picture_of self.now channel)) }
     {
         let tile = y / 16 * self.w.div_ceil(16) + column;
-        self.pixels[tile as usize].row(place_of(channel), y % 16)
-    }
-}
-
-/// The place of a channel among the four.
-pub(crate) fn place_of(channel: Channel) -> u32
-    ensures value { result ≡ place_of channel }
-    ensures within { result < 4 }
-{
-    match channel {
-        Channel::Color => 0,
-        Channel::PrimitiveId => 1,
-        Channel::ObjectId => 2,
-        Channel::InstanceId => 3,
+        self.pixels[tile as usize].row(channel.number(), y % 16)
     }
 }

@@ -1,5 +1,6 @@
 pub mod Ids
 pub mod Mat34
+pub mod Placings
 pub mod Root
 pub mod UnitVector
 pub mod Vec3

@@ -125,6 +125,9 @@ pub struct Lighting {
 /// An id where there is none.
 pub const NO_ID: u32 = 0xFFFF_FFFF;
 
+/// The greatest depth number: a ray ends at 2^32 times its direction, in units of 1/65536 of it.
+pub const FARTHEST: u64 = 1 << 32;
+
 /// A triangle or a sphere of a scene, and what a pixel shows where it is hit (ANARI 1.0 Specification, Surface).
 #[derive(Clone, Copy, Debug, PartialEq, Eq)]
 pub struct Primitive {

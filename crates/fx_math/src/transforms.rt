@@ -27,12 +27,21 @@ pub fn transform(m: &Mat34, v: Vec3) -> Option<Vec3>
     requires { reach v ≤ 2 ^ 31 }
     ensures { SomeIff result (reach (placed m.now v) ≤ 2 ^ 28) (placed m.now v) }
 {
-    let image = add(transform_direction(m, v), column(m, 3));
+    let image = placed(m, v);
     if reach(image) <= 1 << 28 {
         Some(image)
     } else {
         None
     }
+}
+
+/// Where a point goes, as `transform`, with no limit. Components are within 2^31.
+pub fn placed(m: &Mat34, v: Vec3) -> Vec3
+    requires { reach v ≤ 2 ^ 31 }
+    ensures value { result ≡ placed m.now v }
+    ensures size { reach result ≤ 2 ^ 48 }
+{
+    add(transform_direction(m, v), column(m, 3))
 }
 
 /// Where a direction goes, each component rounded down. Components are within 2^31.
@@ -73,7 +82,7 @@ fn scaled_radius(m: &Mat34, radius: i64) -> i64
 }
 
 /// The length of the first column, rounded down.
-fn axis_length(m: &Mat34) -> i64
+pub(crate) fn axis_length(m: &Mat34) -> i64
     ensures value { result ≡ pos (axis_length m.now) }
     ensures size { unsigned_abs result < 2 ^ 32 }
 {
@@ -82,7 +91,7 @@ fn axis_length(m: &Mat34) -> i64
 }
 
 /// What a product of numbers in 1/65536 counts in 1/65536, rounded down.
-fn units(n: i128) -> i64
+pub(crate) fn units(n: i128) -> i64
     requires { unsigned_abs n ≤ 3 * 2 ^ 62 }
     ensures { result ≡ int_div_euclid n (pos 65536) }
 {

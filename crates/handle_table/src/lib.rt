@@ -6,7 +6,5 @@
 #![tactic(auto)]
 
 pub mod table;
-#[cfg(test)]
-mod tests;
 
 pub use table::Table;

@@ -4,12 +4,7 @@
 
 mod quotients;
 mod spheres;
-#[cfg(test)]
-mod tests;
 mod triangles;
 
 pub use spheres::sphere;
 pub use triangles::triangle;
-
-/// The greatest depth number.
-const FARTHEST: u64 = 1 << 32;

@@ -5,9 +5,8 @@ ghost use Rattle.hit_tests.specs.Approaches.{IsApproachWithin, entry, is_inside}
 ghost use Rattle.picture_model.specs.Depths.{depth};
 ghost use Rattle.picture_model.specs.Limits.{IsRayWithin, IsSphereWithin};
 
-use crate::FARTHEST;
 use crate::quotients::quotient;
-use fx_math::{Ray, Vec3, dot, isqrt, sub};
+use fx_math::{FARTHEST, Ray, Vec3, dot, isqrt, sub};
 
 /// The depth number of the ray's hit with the ball round `centre`: the least whole number from 0 to 2^32 whose point on the ray
 /// lies in the ball, its surface included. So it is 0 where the ray starts in the ball, and None where the ray passes the ball, also

@@ -5,9 +5,8 @@ ghost use Rattle.hit_tests.specs.Fractions.{depth_number, turned_by};
 ghost use Rattle.picture_model.specs.Depths.{depth};
 ghost use Rattle.picture_model.specs.Limits.{IsRayWithin, IsTriangleWithin};
 
-use crate::FARTHEST;
 use crate::quotients::quotient;
-use fx_math::{Ray, Vec3, cross, dot, sub};
+use fx_math::{FARTHEST, Ray, Vec3, cross, dot, sub};
 
 /// The depth number of the ray's hit with the triangle of these three points, on either of its sides and up to its edges: how
 /// often the ray's direction goes into the way to the hit, in 1/65536, rounded down, from 0 to 2^32. None where the ray misses

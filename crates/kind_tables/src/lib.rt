@@ -6,10 +6,10 @@
 pub mod examples;
 pub mod kinds;
 pub mod rows;
-#[cfg(test)]
-mod tests;
+pub mod values;
 pub mod walks;
 
 pub use kinds::{Kind, kind_of, rank, subtypes_of};
 pub use rows::{Row, parameters_of, row_of};
+pub use values::{object_in, type_of_channel};
 pub use walks::{a_frame_shows_its_world, walks_end, walks_go_down, walks_visit_objects};

@@ -16,7 +16,8 @@ use Rattle.std.proofs.lemmas.Map.{lookup-none}
 use Rattle.std.proofs.lemmas.Map.Entries.{none_below_head}
 use Rattle.dev_types.specs.declared.values.Value.{Value}
 use Rattle.kind_tables.specs.SceneObjects.{object_in, objects_of, with_value, without_value}
-use Rattle.param_stage.specs.Params.{Values, ParamMaps, object_under, times, Accounts}
+use Rattle.dev_types.specs.Counting.{times}
+use Rattle.param_stage.specs.Params.{Values, ParamMaps, object_under, Accounts}
 
 -- lists in a row
 times-append : (xs ys : List ℕ) (h : ℕ) → times h (xs ++ ys) ≡ times h xs + times h ys

@@ -2,6 +2,7 @@
 -- parameters and commit).
 use Rattle.std.specs.Prelude.{◌≡◌, ℕ, ◌+◌, ◌==◌, List, ◌++◌, option_and_then, count_by}
 use Rattle.std.specs.Option.{option_to_list}
+use Rattle.dev_types.specs.Counting.{times}
 use Rattle.dev_types.specs.declared.values.Value.{Value}
 use Rattle.kind_tables.specs.SceneObjects.{object_in, objects_of, value_named}
 
@@ -21,10 +22,6 @@ object_under name values = option_to_list (option_and_then object_in (value_name
 -- the objects that all parameters name, the staged ones before the committed ones
 abbrev pub named : ParamMaps → List ℕ
 named maps = objects_of maps.staged ++ objects_of maps.committed
-
--- how often a list has a number
-abbrev pub times : ℕ → List ℕ → ℕ
-times h list = count_by (λ k. k == h) list
 
 -- of each object, what is named and what is gone are what was named and what was added
 abbrev pub Accounts : ParamMaps → ParamMaps → List ℕ → List ℕ → Type 0

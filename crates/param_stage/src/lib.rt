@@ -9,6 +9,3 @@ mod params;
 
 pub use handles::{HandleList, Named};
 pub use params::Params;
-
-#[cfg(test)]
-mod tests;

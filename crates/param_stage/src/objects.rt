@@ -6,20 +6,11 @@ ghost use Rattle.param_stage.specs.Params.{object_under};
 
 use crate::handles::HandleList;
 use dev_types::{Handle, Name, Value};
+use kind_tables::object_in;
 use std::alloc::{AllocError, Global};
 use std::collections::BTreeMap;
 
 pub(crate) type Values = BTreeMap<Name, Value>;
-
-/// The object that a value names; handle 0 is none.
-pub(crate) fn object_in(value: &Value) -> Option<Handle>
-    ensures { result ≡ object_in value.now }
-{
-    match value {
-        Value::Object(_, handle) if handle.0 > 0 => Some(*handle),
-        _ => None,
-    }
-}
 
 pub(crate) fn one_or_none(alloc: Global, object: Option<Handle>) -> Result<HandleList, AllocError>
     ensures { IfOk result (λ list. list ≡ option_to_list object) }

@@ -7,6 +7,7 @@ ghost use Rattle.param_stage.specs.Params.{object_under, named, Accounts};
 use crate::handles::{HandleList, Named};
 use crate::objects::{self, Values};
 use dev_types::{Handle, Name, NoMemory, Value};
+use kind_tables::object_in;
 use std::alloc::{AllocError, Global};
 use std::collections::BTreeMap;
 use std::marker::Model;
@@ -57,7 +58,7 @@ impl Params {
         ensures err { OnErr result (self.new ≡ self.old) }
     {
         let told = Named {
-            added: objects::one_or_none(alloc, objects::object_in(v))?,
+            added: objects::one_or_none(alloc, object_in(v))?,
             gone: objects::object_under(alloc, name, &self.staged)?,
         };
         self.staged

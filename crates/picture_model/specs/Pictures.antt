@@ -14,6 +14,13 @@ use Rattle.picture_model.specs.Rays.{camera_ray}
 use Rattle.picture_model.specs.Shading.{placed, primitive_at, shade}
 use Rattle.picture_model.specs.Tiles.{tile_rect}
 
+-- the picture with this number among the four, from 0
+abbrev pub plane : ℕ → Plane
+plane zero = Color
+plane (suc zero) = PrimitiveId
+plane (suc (suc zero)) = ObjectId
+plane (suc (suc (suc n))) = InstanceId
+
 -- the ray of pixel (x, y)
 abbrev pub ray_at : Scene → ℕ → ℕ → Ray
 ray_at scene x y = camera_ray scene.camera scene.width scene.height x y

@@ -3,7 +3,7 @@ ghost use Rattle.fx_math.specs.Vec3.{cross, dot, reach};
 ghost use Rattle.picture_model.specs.Depths.{crossing, turned, is_crossed, crossing_depth, depth, distance_at, farthest, from_centre, is_in_ball, is_settled, sphere_depth};
 ghost use Rattle.picture_model.specs.Limits.{IsCrossingWithin, IsPoint, IsRayWithin, IsShapeWithin, IsSphereWithin};
 
-use fx_math::{Ray, Shape, Vec3, add, cross, dot, sub, times};
+use fx_math::{FARTHEST, Ray, Shape, Vec3, add, cross, dot, sub, times};
 
 /// Where a ray meets a triangle's plane, as fractions over one denominator: `t / det` along the ray, `p / det` along the first edge and
 /// `q / det` along the second.
@@ -14,9 +14,6 @@ pub struct Crossing {
     pub p: i128,
     pub q: i128,
 }
-
-/// The greatest depth number.
-const FARTHEST: u64 = 1 << 32;
 
 /// The triple product `a . (b x c)` of vectors as rays and triangles within the limits have them.
 fn triple(a: Vec3, b: Vec3, c: Vec3) -> i128

@@ -11,8 +11,6 @@ mod records;
 mod search;
 mod shading;
 mod source;
-#[cfg(test)]
-mod tests;
 mod tiles;
 
 pub use depths::{Crossing, depth};
@@ -21,10 +19,10 @@ pub use laws::{
     rows_are_those_of_tiles,
 };
 pub use limits::is_scene_within;
-pub use pictures::{part, picture, pixel, shade};
-pub use rays::{Axes, camera_ray};
+pub use pictures::{id_bytes, part, picture, pixel, shade};
+pub use rays::{Axes, across, axes_of, camera_ray};
 pub use records::{Blend, Hit, HitRow, Plane, Rect};
 pub use search::{hit_after, hits, is_nearer, nearer, nearest};
-pub use shading::{blend_hit, finish_blend, to_byte};
+pub use shading::{blend_hit, facing, finish_blend, normal_of, point_at, to_byte, weight};
 pub use source::PrimSource;
 pub use tiles::{tile_count, tile_of, tile_rect};

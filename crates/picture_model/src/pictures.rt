@@ -95,7 +95,7 @@ fn front(primitives: &[Primitive], ray: &Ray) -> Option<Primitive>
 }
 
 /// An id, lowest byte first, where there may be none.
-fn id_bytes(id: Option<u32>) -> [u8; 4]
+pub fn id_bytes(id: Option<u32>) -> [u8; 4]
     ensures { result ≡ id_bytes id }
 {
     id.unwrap_or(NO_ID).to_le_bytes()

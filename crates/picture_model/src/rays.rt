@@ -14,7 +14,7 @@ pub struct Axes {
 }
 
 /// The axes of a camera that looks along `direction`, with `up` as near to its picture's up as may be.
-fn axes_of(direction: Vec3, up: Vec3) -> Axes
+pub fn axes_of(direction: Vec3, up: Vec3) -> Axes
     requires direction { reach direction ≤ 2 ^ 31 }
     requires up { reach up ≤ 2 ^ 31 }
     ensures value { result ≡ axes_of direction up }
@@ -62,7 +62,7 @@ fn offset(extent: i64, unit: u32, n: u32, i: u32) -> i64
 }
 
 /// `sx` to the right and `sy` up in the picture's plane.
-fn across(axes: &Axes, sx: i64, sy: i64) -> Vec3
+pub fn across(axes: &Axes, sx: i64, sy: i64) -> Vec3
     requires axes { AreAxesWithin axes.now }
     requires right { unsigned_abs sx ≤ 2 ^ 31 }
     requires up { unsigned_abs sy ≤ 2 ^ 31 }

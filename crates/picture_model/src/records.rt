@@ -1,3 +1,6 @@
+ghost use Rattle.std.specs.Prelude.{◌≡◌};
+ghost use Rattle.picture_model.specs.Pictures.{plane};
+
 use fx_math::{Place, Shape};
 
 /// Where a ray meets a primitive. Of two hits the lower counts, by depth and then by place.
@@ -35,6 +38,20 @@ pub enum Plane {
     PrimitiveId,
     ObjectId,
     InstanceId,
+}
+
+impl Plane {
+    /// The picture with this number among the four, from 0.
+    pub fn numbered(number: u32) -> Plane
+        ensures { result ≡ plane number }
+    {
+        match number {
+            0 => Plane::Color,
+            1 => Plane::PrimitiveId,
+            2 => Plane::ObjectId,
+            _ => Plane::InstanceId,
+        }
+    }
 }
 
 /// A rectangle of pixels: `w` columns from `x0` on, `h` rows from `y0` up.

@@ -32,7 +32,7 @@ fn component(color: &[i32; 3], i: usize) -> i128
 }
 
 /// The point of the ray at a depth number.
-fn point_at(ray: &Ray, depth: u64) -> Vec3
+pub fn point_at(ray: &Ray, depth: u64) -> Vec3
     requires ray { IsRayWithin ray.now }
     requires near { depth ≤ 2 ^ 32 }
     ensures value { result ≡ point_at ray.now depth }
@@ -42,7 +42,7 @@ fn point_at(ray: &Ray, depth: u64) -> Vec3
 }
 
 /// The unit normal of a shape at one of its points, on either of its sides.
-fn normal_of(shape: &Shape, point: Vec3) -> Vec3
+pub fn normal_of(shape: &Shape, point: Vec3) -> Vec3
     requires shape { IsShapeWithin shape.now }
     requires point { reach point ≤ 2 ^ 42 }
     ensures value { result ≡ normal_of shape.now point }
@@ -55,7 +55,7 @@ fn normal_of(shape: &Shape, point: Vec3) -> Vec3
 }
 
 /// The same normal on the side that the ray comes from.
-fn facing(ray: &Ray, normal: Vec3) -> Vec3
+pub fn facing(ray: &Ray, normal: Vec3) -> Vec3
     requires ray { IsRayWithin ray.now }
     requires normal { reach normal ≤ 65536 }
     ensures value { result ≡ facing ray.now normal }
@@ -188,7 +188,7 @@ fn radiance(i: usize, lighting: &Lighting, ray: &Ray, row: &HitRow) -> i128
 
 /// The share of what still shows that a hit takes for itself.
 #[tactic(auto, unfolding(crate::specs::Shading::weight))]
-fn weight(rest: u32, opacity: i32) -> u32
+pub fn weight(rest: u32, opacity: i32) -> u32
     requires rest { rest ≤ 65536 }
     requires opacity { IsBetween 0 65536 opacity }
     ensures value { result ≡ weight rest opacity }

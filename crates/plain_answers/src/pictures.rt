@@ -1,27 +1,17 @@
 //! The pictures of frames that are done.
 ghost use Rattle.std.specs.Prelude.{◌≡◌, IfOk, IsSome, Some};
-ghost use Rattle.kind_tables.specs.Ranges.{type_of_channel};
 ghost use Rattle.seq_model.specs.Answers.{mapped_picture};
 ghost use Rattle.seq_model.specs.Histories.{frame_at};
 ghost use Rattle.seq_model.specs.Pictures.{picture_at, plane_of};
 ghost use Rattle.seq_model.specs.Refusals.{phase_at};
 
-use dev_types::{Bytes, Channel, DataType, Handle, NoMemory};
+use dev_types::{Bytes, Channel, Handle, NoMemory};
+use kind_tables::type_of_channel;
 use picture_model::{Plane, picture};
 use plain_journal::record::Record;
 use plain_objects::objects::Shows;
 use seq_model::Reply;
 use std::alloc::Global;
-
-/// The type of what a channel shows.
-fn type_of_channel(channel: Channel) -> DataType
-    ensures { result ≡ type_of_channel channel }
-{
-    match channel {
-        Channel::Color => DataType::Ufixed8Vec4,
-        _ => DataType::Uint32,
-    }
-}
 
 /// Which picture a channel shows.
 fn plane_of(channel: Channel) -> Plane

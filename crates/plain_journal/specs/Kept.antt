@@ -10,7 +10,6 @@ use Rattle.seq_model.specs.Legal.{Legal}
 use Rattle.seq_model.specs.Pictures.{has_channel, scene_at}
 use Rattle.seq_model.specs.Steps.{Past, after}
 use Rattle.plain_objects.specs.Counts.{count_at}
-use Rattle.past_laws.specs.Prepared.{place_of_channel}
 use Rattle.plain_journal.specs.declared.renders.Render.{Render}
 
 -- the render with this ticket
@@ -20,7 +19,7 @@ render_with t renders = find (λ r. r.ticket == t) renders
 -- the render of a history at a place, as it is kept
 pub record Shows (history : History) (t : ℕ) (r : Render) : Type 0 where
   pub scene : r.scene ≡ scene_at history t
-  pub channels : (c : Channel) → slice_index_or r.channels (place_of_channel c) false ≡ has_channel history t c
+  pub channels : (c : Channel) → slice_index_or r.channels (number_of_channel c) false ≡ has_channel history t c
   pub within : IsSceneWithin r.scene
 
 -- each render is kept, and none that did not happen yet

@@ -12,6 +12,3 @@ mod words;
 pub use entries::{CallText, EntryText, ReplyText};
 pub use images::{MappedBytes, write_ppm};
 pub use lines::entry_line;
-
-#[cfg(test)]
-mod tests;

@@ -5,8 +5,6 @@
 mod hits;
 mod searches;
 mod shapes;
-#[cfg(test)]
-mod tests;
 mod trees;
 mod walks;
 

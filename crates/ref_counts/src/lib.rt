@@ -9,7 +9,5 @@
 pub mod counts;
 mod entries;
 mod held;
-#[cfg(test)]
-mod tests;
 
 pub use counts::Counts;

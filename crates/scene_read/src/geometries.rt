@@ -1,8 +1,7 @@
 //! The triangles and spheres of a geometry under a transform.
-ghost use Rattle.std.specs.Prelude.{◌≡◌, ◌<◌, ◌≤◌, ◌^◌, [], Some, IfOk, IfSome, length, map, unsigned_abs, pos, slice_index_or};
+ghost use Rattle.std.specs.Prelude.{◌≡◌, ◌<◌, ◌≤◌, ◌^◌, [], Some, IfOk, IfSome, length, map, pos, slice_index_or};
 ghost use Rattle.std.specs.List.{range_with_len};
 ghost use Rattle.std.specs.Option.{option_map_or};
-ghost use Rattle.fx_math.specs.Mat34.{axis_length, column, placed, scaled_radius};
 ghost use Rattle.fx_math.specs.Vec3.{reach};
 ghost use Rattle.kind_tables.specs.SceneObjects.{indices_in, object_at};
 ghost use Rattle.kind_tables.specs.Shapes.{radius_by, shapes_of, vertex};
@@ -10,10 +9,10 @@ ghost use Rattle.scene_read.specs.Reading.{IsCounted};
 ghost use Rattle.scene_read.specs.Shaped.{corners_at, count_in, scalars_of_array, sphere_at, triangle_at, triangle_count, vectors_in};
 
 use crate::objects::Objects;
-use crate::readers::{Subject, array, scalar, scalar_in, vector_in, vector_of_numbers};
+use crate::readers::{Subject, array, scalar, scalar_in, vector_in};
 use byte_view::Strided;
 use dev_types::{Handle, Value};
-use fx_math::{Mat34, Shape, Vec3, add, dot, isqrt, scaled_down, times, transform_direction};
+use fx_math::{Mat34, Placing, Shape, Vec3};
 use kind_tables::Kind;
 use std::alloc::{AllocError, Global};
 
@@ -50,53 +49,6 @@ pub(crate) fn vertex(positions: &Option<Strided<'_>>, i: u64) -> Vec3
         Some(elements) => vector_at(elements, i),
         None => vector_in(None),
     }
-}
-
-/// Number `i` of a transform, column after column.
-fn entry(m: &Mat34, i: usize) -> i64
-    requires { i < 12 }
-    ensures value { result ≡ slice_index_or m.now.c i (pos 0) }
-    ensures size { unsigned_abs result ≤ 2 ^ 31 }
-{
-    i64::from(m.c[i])
-}
-
-/// Column `j` of a transform.
-fn column(m: &Mat34, j: usize) -> Vec3
-    requires { j < 4 }
-    ensures value { result ≡ column m.now j }
-    ensures size { reach result ≤ 2 ^ 31 }
-{
-    Vec3 {
-        x: entry(m, 3 * j),
-        y: entry(m, 3 * j + 1),
-        z: entry(m, 3 * j + 2),
-    }
-}
-
-/// Where a point goes, with no limit.
-pub(crate) fn placed(m: &Mat34, v: Vec3) -> Vec3
-    requires { reach v ≤ 2 ^ 31 }
-    ensures { result ≡ placed m.now v }
-{
-    add(transform_direction(m, v), column(m, 3))
-}
-
-/// The length of the first axis of a transform, rounded down.
-fn axis_length(m: &Mat34) -> i64
-    ensures value { result ≡ pos (axis_length m.now) }
-    ensures size { unsigned_abs result < 2 ^ 32 }
-{
-    let axis = column(m, 0);
-    isqrt(dot(axis, axis) as u128) as i64
-}
-
-/// What a radius becomes, with no limit.
-fn scaled_radius(m: &Mat34, radius: i32) -> i64
-    ensures { result ≡ scaled_radius m.now radius }
-{
-    let along = vector_of_numbers(&[radius, 0, 0]);
-    scaled_down(times(along, axis_length(m))).x
 }
 
 /// The vertex numbers that a value holds, if it is an index.
@@ -152,7 +104,7 @@ fn number_at(numbers: &Option<[u64; 3]>, i: usize) -> u64
 
 /// Triangle `k`.
 pub fn triangle_at(
-    m: &Mat34,
+    m: &Placing,
     positions: &Option<Strided<'_>>,
     indices: &Option<Strided<'_>>,
     k: u64,
@@ -163,16 +115,16 @@ pub fn triangle_at(
 {
     let numbers = corners_at(indices, k);
     Shape::Triangle(
-        placed(m, vertex(positions, number_at(&numbers, 0))),
-        placed(m, vertex(positions, number_at(&numbers, 1))),
-        placed(m, vertex(positions, number_at(&numbers, 2))),
+        m.point(vertex(positions, number_at(&numbers, 0))),
+        m.point(vertex(positions, number_at(&numbers, 1))),
+        m.point(vertex(positions, number_at(&numbers, 2))),
     )
 }
 
 /// The triangles of a geometry.
 fn triangles(
     alloc: Global,
-    m: &Mat34,
+    m: &Placing,
     positions: &Option<Strided<'_>>,
     indices: &Option<Strided<'_>>,
 ) -> Result<Vec<Shape>, AllocError>
@@ -211,7 +163,7 @@ pub(crate) fn radius_at(radii: &Option<Strided<'_>>, common: i32, k: u64) -> i32
 
 /// Sphere `k`.
 pub fn sphere_at(
-    m: &Mat34,
+    m: &Placing,
     positions: &Option<Strided<'_>>,
     radii: &Option<Strided<'_>>,
     common: i32,
@@ -219,14 +171,14 @@ pub fn sphere_at(
 ) -> Shape
     ensures { result ≡ sphere_at m.now positions.now radii.now common k }
 {
-    let centre = placed(m, vertex(positions, k));
-    Shape::Sphere(centre, scaled_radius(m, radius_at(radii, common, k)))
+    let centre = m.point(vertex(positions, k));
+    Shape::Sphere(centre, m.radius(radius_at(radii, common, k)))
 }
 
 /// The spheres of a geometry.
 fn spheres(
     alloc: Global,
-    m: &Mat34,
+    m: &Placing,
     positions: &Option<Strided<'_>>,
     radii: &Option<Strided<'_>>,
     common: i32,
@@ -276,15 +228,16 @@ pub fn shapes<O: Objects>(
         return Ok(Vec::new(alloc));
     };
     let positions = array(state, h, "vertex.position");
+    let placing = Placing::new(m);
     match kind {
         Kind::GeometryTriangle => {
             let indices = array(state, h, "primitive.index");
-            triangles(alloc, m, &positions, &indices)
+            triangles(alloc, &placing, &positions, &indices)
         }
         Kind::GeometrySphere => {
             let radii = array(state, h, "vertex.radius");
             let common = scalar(state, &Subject::visited(h), "radius");
-            spheres(alloc, m, &positions, &radii, common)
+            spheres(alloc, &placing, &positions, &radii, common)
         }
         _ => Ok(Vec::new(alloc)),
     }

@@ -9,12 +9,6 @@ mod ranges;
 pub mod readers;
 pub mod refusals;
 pub mod scenes;
-#[cfg(test)]
-mod tests;
-#[cfg(test)]
-mod tests_refusals;
-#[cfg(test)]
-mod tests_store;
 pub mod visits;
 pub mod walks;
 

@@ -1,4 +1,5 @@
-ghost use Rattle.std.specs.Prelude.{◌≡◌, false};
+ghost use Rattle.std.specs.Prelude.{◌≡◌, false, IfSome};
+ghost use Rattle.byte_view.specs.Elements.{Fit};
 ghost use Rattle.std.specs.Option.{option_and_then, option_map, option_map_or};
 ghost use Rattle.kind_tables.specs.SceneObjects.{SceneObjects, object_at, value_named};
 ghost use Rattle.scene_read.specs.Reading.{IsCounted, content_of};
@@ -21,10 +22,11 @@ pub trait Objects {
     fn committed(&self, h: Handle, name: &Name) -> Option<&Value>
         ensures { option_map (λ v. v.now) result ≡ option_and_then (λ o. value_named name.now o.committed) (object_at (objects self.now) h) };
 
-    /// The elements of an array, at most 2^28; `None` exactly where the object is none.
+    /// The elements of an array, at most 2^28, which lie in its block; `None` exactly where the object is none.
     fn content(&self, h: Handle) -> Option<Strided<'_>>
         ensures value { result ≡ content_of (objects self.now) h }
-        ensures size { IsCounted result };
+        ensures size { IsCounted result }
+        ensures fits { IfSome result Fit };
 
     /// The bytes that `content` reads; `None` exactly where the object is no array.
     fn block(&self, h: Handle) -> Option<&Bytes>

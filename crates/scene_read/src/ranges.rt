@@ -11,7 +11,7 @@ ghost use Rattle.scene_read.specs.Starts.{visited_object};
 ghost use Rattle.scene_read.specs.Tested.{camera_tests, have_names, test_of, tests_in};
 
 use crate::objects::Objects;
-use crate::readers::{Subject, color, kind, name_of, scalar, value, vector};
+use crate::readers::{Subject, color, kind, scalar, value, vector};
 use dev_types::{DataType, Handle, Name, Value};
 use fx_math::{Mat34, Vec3, cross, reach, transform, transform_radius, unit};
 use kind_tables::Kind;
@@ -26,7 +26,7 @@ pub(crate) fn first_broken(tests: &[Test]) -> Option<Name>
 {
     for (name, holds) in tests {
         if !*holds {
-            return Some(name_of(name));
+            return Some(Name::of(name));
         }
     }
     None
@@ -133,7 +133,7 @@ fn channel<O: Objects>(state: &O, h: Handle, name: &'static str, ty: DataType) -
     requires { IsTrue (is_name name.now) }
     ensures { test_of result ≡ (name.now, is_asked_as ty (value_at (visited_object (O.objects state.now) h) name.now)) }
 {
-    let asked = value(state, &Subject::visited(h), &name_of(name));
+    let asked = value(state, &Subject::visited(h), &Name::of(name));
     (name, is_asked_as(ty, &asked))
 }
 
@@ -158,7 +158,7 @@ fn broken_camera<O: Objects>(state: &O, h: Handle, own: Test) -> Option<Name>
 fn broken_frame<O: Objects>(state: &O, h: Handle, m: &Mat34) -> Option<Name>
     ensures { result ≡ first_broken (tests_of Kind.FrameDefault m.now (visited_object (O.objects state.now) h)) }
 {
-    let size = value(state, &Subject::visited(h), &name_of("size"));
+    let size = value(state, &Subject::visited(h), &Name::of("size"));
     first_broken(&[
         ("size", are_sides(&size)),
         channel(state, h, "channel.color", DataType::Ufixed8Vec4),

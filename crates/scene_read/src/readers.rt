@@ -10,7 +10,7 @@ use crate::objects::Objects;
 use byte_view::Strided;
 use dev_types::{Handle, Name, Value};
 use fx_math::{Mat34, NO_ID, Vec3};
-use kind_tables::{Kind, row_of};
+use kind_tables::{Kind, object_in, row_of};
 
 /// An object that is read. Where there is none, an object of a kind that was given nothing stands in its place.
 #[derive(Clone, Copy, Debug)]
@@ -28,17 +28,6 @@ impl Subject {
             handle: Some(handle),
             otherwise: Kind::FrameDefault,
         }
-    }
-}
-
-/// A name that stands in the table.
-pub(crate) fn name_of(text: &str) -> Name
-    requires { IsTrue (is_name text.now) }
-    ensures { result ≡ text.now }
-{
-    match Name::new(text) {
-        Some(name) => name,
-        None => unreachable!(),
     }
 }
 
@@ -132,30 +121,28 @@ pub(crate) fn id_in(value: Option<Value>) -> u32
     }
 }
 
-/// The object that a value names.
-pub(crate) fn object_in(value: &Value) -> Option<Handle>
-    ensures { result ≡ object_in value.now }
-{
-    match value {
-        Value::Object(_, handle) if handle.0 != 0 => Some(*handle),
-        _ => None,
-    }
-}
-
 /// A scalar parameter.
 pub fn scalar<O: Objects>(state: &O, subject: &Subject, text: &str) -> i32
     requires { IsTrue (is_name text.now) }
     ensures { result ≡ scalar_of (object_of (O.objects state.now) subject.now) text.now }
 {
-    scalar_in(value(state, subject, &name_of(text)))
+    scalar_in(value(state, subject, &Name::of(text)))
 }
 
 /// A colour: three scalars, red, green and blue.
-pub(crate) fn color<O: Objects>(state: &O, subject: &Subject, text: &str) -> [i32; 3]
+pub fn color<O: Objects>(state: &O, subject: &Subject, text: &str) -> [i32; 3]
     requires { IsTrue (is_name text.now) }
     ensures { result ≡ scalars_of (object_of (O.objects state.now) subject.now) text.now }
 {
-    scalars_in(value(state, subject, &name_of(text)))
+    scalars_in(value(state, subject, &Name::of(text)))
+}
+
+/// An id, or the one that is none.
+pub fn id<O: Objects>(state: &O, subject: &Subject, text: &str) -> u32
+    requires { IsTrue (is_name text.now) }
+    ensures { result ≡ id_in (value_at (object_of (O.objects state.now) subject.now) text.now) }
+{
+    id_in(value(state, subject, &Name::of(text)))
 }
 
 /// A vector parameter.
@@ -164,15 +151,15 @@ pub(crate) fn vector<O: Objects>(state: &O, subject: &Subject, text: &str) -> Ve
     ensures value { result ≡ vector_of (object_of (O.objects state.now) subject.now) text.now }
     ensures size { reach result ≤ 2 ^ 31 }
 {
-    vector_in(value(state, subject, &name_of(text)))
+    vector_in(value(state, subject, &Name::of(text)))
 }
 
 /// The object that was committed under a name.
-pub(crate) fn named<O: Objects>(state: &O, h: Handle, text: &str) -> Option<Handle>
+pub fn named<O: Objects>(state: &O, h: Handle, text: &str) -> Option<Handle>
     requires { IsTrue (is_name text.now) }
     ensures { result ≡ named_in (O.objects state.now) h text.now }
 {
-    object_in(state.committed(h, &name_of(text))?)
+    object_in(state.committed(h, &Name::of(text))?)
 }
 
 /// The elements of the array that was committed under a name.

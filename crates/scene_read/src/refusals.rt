@@ -14,7 +14,7 @@ use crate::geometries::shape_count;
 use crate::geometry_ranges::broken_geometry;
 use crate::objects::Objects;
 use crate::ranges::broken_value;
-use crate::readers::{Subject, kind, name_of};
+use crate::readers::{Subject, kind};
 use crate::scenes::{light, live};
 use crate::visits::{Visit, Visits};
 use crate::walks::visits_from;
@@ -46,7 +46,7 @@ fn lacks<O: Objects>(state: &O, h: Handle, kind: Kind, text: &str) -> bool
     requires { IsTrue (is_name text.now) }
     ensures { result ≡ lacks kind (visited_object (O.objects state.now) h) text.now }
 {
-    let name = name_of(text);
+    let name = Name::of(text);
     match row_of(kind, &name) {
         Some(row) => row.required && state.committed(h, &name).is_none(),
         None => false,
@@ -60,7 +60,7 @@ fn missing_parameter<O: Objects>(state: &O, h: Handle) -> Option<Name>
     let kind = kind(state, &Subject::visited(h));
     for text in parameters_of(kind) {
         if lacks(state, h, kind, text) {
-            return Some(name_of(text));
+            return Some(Name::of(text));
         }
     }
     None

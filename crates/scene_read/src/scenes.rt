@@ -15,14 +15,14 @@ ghost use Rattle.scene_read.specs.SceneReads.{HasSides, IsReadCamera, IsReadLigh
 ghost use Rattle.scene_read.specs.Shown.{finish_of, finished, lit, live_in};
 ghost use Rattle.scene_read.specs.Starts.{all_seen, seen, starts_of, visited_object};
 
-use crate::geometries::{placed, shapes};
+use crate::geometries::shapes;
 use crate::objects::Objects;
-use crate::readers::{Subject, color, id_in, kind, name_of, named, scalar, value, vector};
+use crate::readers::{Subject, color, id, kind, named, scalar, value, vector};
 use crate::visits::{Spot, Visit, Visits};
-use dev_types::{Handle, NoMemory, Value};
+use dev_types::{Handle, Name, NoMemory, Value};
 use fx_math::{
     CameraRow, LightList, LightRow, Lighting, Place, Primitive, PrimitiveList, Scene, Shape,
-    transform_direction,
+    placed, transform_direction,
 };
 use kind_tables::Kind;
 use std::alloc::{AllocError, Global};
@@ -167,7 +167,7 @@ fn finish_of<O: Objects>(state: &O, surface: Handle, material: Handle) -> Finish
     Finish {
         color: color(state, &material, "color"),
         opacity: scalar(state, &material, "opacity"),
-        object_id: id_in(value(state, &surface, &name_of("id"))),
+        object_id: id(state, &surface, "id"),
     }
 }
 
@@ -240,7 +240,7 @@ pub fn sides<O: Objects>(state: &O, frame: Handle) -> (u32, u32)
     ensures height { result.1 ≡ side_of (visited_object (O.objects state.now) frame) 1 }
     ensures sides { HasSides (size_of_frame (O.objects state.now) frame) }
 {
-    let size = value(state, &Subject::visited(frame), &name_of("size"));
+    let size = value(state, &Subject::visited(frame), &Name::of("size"));
     (side(&size, 0), side(&size, 1))
 }
 

@@ -9,11 +9,11 @@ ghost use Rattle.scene_read.specs.Reading.{content_of};
 ghost use Rattle.scene_read.specs.Starts.{all_seen, content_starts, element_start, element_starts, parameter_start, parameter_starts, starts_below, starts_of, visited_object};
 
 use crate::objects::Objects;
-use crate::readers::{Subject, id_in, matrix_in, name_of, named, object_in, value};
+use crate::readers::{Subject, id_in, matrix_in, named, value};
 use crate::visits::{Spot, Visit, Visits};
 use byte_view::Strided;
-use dev_types::{DataType, Handle, NoMemory};
-use kind_tables::{Kind, parameters_of};
+use dev_types::{DataType, Handle, Name, NoMemory};
+use kind_tables::{Kind, object_in, parameters_of};
 use std::alloc::{AllocError, Global};
 
 /// Where element `i` of an array stands.
@@ -121,8 +121,8 @@ fn at_parameters_of<O: Objects>(state: &O, visit: &Visit, kind: Kind) -> Spot
         return visit.spot;
     };
     let instance = Subject::visited(visit.handle);
-    let transform = value(state, &instance, &name_of("transform"));
-    let id = value(state, &instance, &name_of("id"));
+    let transform = value(state, &instance, &Name::of("transform"));
+    let id = value(state, &instance, &Name::of("id"));
     Spot {
         transform: matrix_in(transform),
         instance_id: id_in(id),

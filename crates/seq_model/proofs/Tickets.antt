@@ -14,7 +14,8 @@ use Rattle.seq_model.proofs.Handles.{changed, rises, step_state, swept_next}
 use Rattle.seq_model.proofs.Keys.{RisesWithin, at, at_tail, at_within, key_here}
 use Rattle.seq_model.proofs.Sweeps.{place_after}
 use Rattle.seq_model.specs.Histories.{History, frame_at}
-use Rattle.seq_model.specs.Life.{has, times}
+use Rattle.dev_types.specs.Counting.{times}
+use Rattle.seq_model.specs.Life.{has}
 use Rattle.seq_model.specs.State.{Object, Phase, Empty, Flight, Done, State, changed_at, flights, object_at, ticket_in}
 use Rattle.seq_model.specs.Steps.{Past, after, discard, end_flights, next_place, set_phase, step, stop}
 use Rattle.seq_model.specs.Tickets.{ticket_of}

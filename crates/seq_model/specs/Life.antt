@@ -2,16 +2,13 @@
 use Rattle.std.specs.Prelude.{ℕ, zero, suc, ◌+◌, ◌==◌, ◌||◌, nat_lt, Bool, List, [], ◌++◌, Option, count_by, length, map}
 use Rattle.std.specs.List.{filter, list_any, sum_by}
 use Rattle.std.specs.Option.{option_map, option_map_or, unwrap_or}
+use Rattle.dev_types.specs.Counting.{times}
 use Rattle.kind_tables.specs.SceneObjects.{objects_in, objects_of}
 use Rattle.seq_model.specs.State.{ArrayState, Object, State, array_loan, flights}
 
 -- whether a list has a number
 abbrev pub has : ℕ → List ℕ → Bool
 has h list = list_any (λ k. k == h) list
-
--- how often a list has a number
-abbrev pub times : ℕ → List ℕ → ℕ
-times h list = count_by (λ k. k == h) list
 
 -- the objects that the elements of an array name
 abbrev pub objects_of_elements : Option ArrayState → List ℕ

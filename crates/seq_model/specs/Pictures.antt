@@ -2,17 +2,16 @@
 -- Specification, Frame).
 use Rattle.std.specs.Prelude.{ℕ, Bool, List}
 use Rattle.std.specs.Option.{is_some, option_and_then, unwrap_or}
+use Rattle.dev_types.specs.Channels.{number_of_channel}
 use Rattle.dev_types.specs.Words.{name_of_channel}
 use Rattle.dev_types.specs.declared.handles.Channel.{Channel}
-use Rattle.dev_types.specs.declared.handles.Channel.TheVariants as channel
 use Rattle.fx_math.specs.declared.scene.Scene.{Scene}
 use Rattle.kind_tables.specs.SceneObjects.{value_named}
 use Rattle.kind_tables.specs.Scenes.{scene}
 use Rattle.kind_tables.specs.Walks.{visited, walk}
-use Rattle.picture_model.specs.Pictures.{picture}
+use Rattle.picture_model.specs.Pictures.{picture, plane}
 use Rattle.picture_model.specs.Tiles.{tile_count}
 use Rattle.picture_model.specs.declared.records.Plane.{Plane}
-use Rattle.picture_model.specs.declared.records.Plane.TheVariants as plane
 use Rattle.seq_model.specs.Histories.{History, before, frame_at}
 use Rattle.seq_model.specs.State.{State, object_at, scene_objects}
 use Rattle.seq_model.specs.Steps.{after}
@@ -27,10 +26,7 @@ scene_at history t = scene (scene_objects (state_before history t)) (unwrap_or (
 
 -- which picture a channel shows
 abbrev pub plane_of : Channel → Plane
-plane_of channel.Color = plane.Color
-plane_of channel.PrimitiveId = plane.PrimitiveId
-plane_of channel.ObjectId = plane.ObjectId
-plane_of channel.InstanceId = plane.InstanceId
+plane_of c = plane (number_of_channel c)
 
 -- the picture of the render at place t in a channel
 unfoldable pub picture_at : History → ℕ → Channel → List ℕ

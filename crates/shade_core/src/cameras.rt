@@ -4,8 +4,8 @@ ghost use Rattle.picture_model.specs.Limits.{AreAxesWithin, IsCameraWithin, IsRa
 ghost use Rattle.picture_model.specs.Rays.{across, axes_of, camera_ray};
 ghost use Rattle.shade_core.specs.Frames.{IsLensWithin, IsSpanWithin, lens_of, offset_in, reach_of, right_span, up_span};
 
-use fx_math::{CameraRow, Ray, Vec3, add, cross, scaled_down, times, unit};
-use picture_model::Axes;
+use fx_math::{CameraRow, Ray, Vec3, add};
+use picture_model::{Axes, across, axes_of};
 use std::marker::Model;
 
 /// The numbers of a camera without its position: the window of its picture reaches `length / unit` up and down, and times the
@@ -134,19 +134,6 @@ fn lens_of(camera: &CameraRow) -> Lens
     }
 }
 
-/// The directions of a picture whose camera looks along `direction`, with `up` as near to its up as may be.
-fn axes_of(direction: Vec3, up: Vec3) -> Axes
-    requires direction { reach direction ≤ 2 ^ 31 }
-    requires up { reach up ≤ 2 ^ 31 }
-    ensures value { result ≡ axes_of direction up }
-    ensures size { AreAxesWithin result }
-{
-    let forward = unit(direction);
-    let right = unit(cross(forward, up));
-    let up = unit(cross(right, forward));
-    Axes { forward, right, up }
-}
-
 /// The `w` pixels from the left to the right of the window.
 fn right_span(lens: &Lens, w: u32) -> Span
     requires lens { IsLensWithin lens.now }
@@ -186,17 +173,6 @@ fn offset_in(span: &Span, i: u32) -> i64
 {
     let half_pixels = 2 * i as i64 + 1 - span.pixels as i64;
     (span.extent * half_pixels).div_euclid(span.divisor as i64)
-}
-
-/// `right` to the right and `up` up in the picture's plane.
-fn across(axes: &Axes, right: i64, up: i64) -> Vec3
-    requires axes { AreAxesWithin axes.now }
-    requires right { unsigned_abs right ≤ 2 ^ 31 }
-    requires up { unsigned_abs up ≤ 2 ^ 31 }
-    ensures value { result ≡ across axes.now right up }
-    ensures size { reach result ≤ unsigned_abs right + unsigned_abs up }
-{
-    scaled_down(add(times(axes.right, right), times(axes.up, up)))
 }
 
 /// The ray of pixel (`x`, `y`) in a frame of `w` by `h` pixels, of which (0, 0) is the lower left one

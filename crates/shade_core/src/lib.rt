@@ -7,8 +7,6 @@ mod laws;
 mod lights;
 mod shading;
 mod surfaces;
-#[cfg(test)]
-mod tests;
 
 pub use cameras::{PreparedCamera, camera_ray};
 pub use laws::blended_hits_are_the_shade;

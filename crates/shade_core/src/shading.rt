@@ -6,7 +6,7 @@ ghost use Rattle.shade_core.specs.Blends.{IsBlendUpTo};
 use crate::lights::{component, incoming};
 use crate::surfaces::surface_at;
 use fx_math::{Lighting, Ray};
-use picture_model::{Blend, HitRow};
+use picture_model::{Blend, HitRow, weight};
 
 /// Adds a hit behind those that the blend has: it takes its share, by its opacity, of what still shows, and gives that share of
 /// the light that comes back from it (ANARI 1.0 Specification, Light and Material).
@@ -30,17 +30,6 @@ pub fn blend_hit(lighting: &Lighting, ray: &Ray, hit: &HitRow, b: &mut Blend)
         b.sum[2] + returned(component(&hit.color, 2), light.blue, taken),
     ];
     b.rest -= taken;
-}
-
-/// The share of what still shows that a hit takes for itself.
-#[tactic(auto, unfolding(picture_model::specs::Shading::weight))]
-fn weight(rest: u32, opacity: i32) -> u32
-    requires rest { rest ≤ 65536 }
-    requires opacity { IsBetween 0 65536 opacity }
-    ensures value { result ≡ weight rest opacity }
-    ensures size { result ≤ rest }
-{
-    (rest as u64 * opacity.unsigned_abs() as u64 >> 16) as u32
 }
 
 /// The share `taken` of the light of one colour that comes back from a surface.

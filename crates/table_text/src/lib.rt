@@ -7,6 +7,3 @@ mod parameters;
 mod texts;
 
 pub use kinds::describe;
-
-#[cfg(test)]
-mod tests;

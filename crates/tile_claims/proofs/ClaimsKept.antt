@@ -13,9 +13,11 @@ use Rattle.tile_claims.specs.declared.key.Key.{Key}
 use Rattle.tile_claims.specs.declared.view.View.{View}
 use Rattle.tile_claims.specs.Parts.{tiles_of, IsSized, IsFilled}
 use Rattle.tile_claims.specs.Pixels.{Pixels}
-use Rattle.tile_claims.specs.Views.{times, open_tiles, claimed, one_if, taken, new_view, claiming, too_late, giving, looking_at_claims, looking_at_gives, stopping, splitting, beside, collecting, IsAlone}
+use Rattle.dev_types.specs.Counting.{times}
+use Rattle.tile_claims.specs.Views.{open_tiles, claimed, one_if, taken, new_view, claiming, too_late, giving, looking_at_claims, looking_at_gives, stopping, splitting, beside, collecting, IsAlone}
 use Rattle.tile_claims.specs.Rule.{ClaimTable, Knows, Kept, IsHome, IsShown, times_open, times_given, Sat, TakesNext, Counts, LooksAtClaims, LooksAtGives, Stops, Collects}
-use Rattle.tile_claims.proofs.SumLaws.{sum_set, sum_same, sum_at, sum_only, sum_agree, upto, upto-same, upto-add, upto-ones, upto-length, upto-sum, times-same, times-other, times-cons, times-more}
+use Rattle.dev_types.proofs.SumLaws.{sum_set, sum_same, sum_at, sum_only, sum_agree, times-same, times-other, times-cons, times-more}
+use Rattle.tile_claims.proofs.SumLaws.{upto, upto-same, upto-add, upto-ones, upto-length, upto-sum}
 
 off : false ≡ true → ⊥
 off e = true≢false (sym e)

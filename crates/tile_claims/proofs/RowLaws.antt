@@ -7,10 +7,10 @@ use Rattle.std.proofs.lemmas.Nat.{div-mul-add}
 use Rattle.std.specs.List.{refill, length_refill}
 use mathlib.Core.Logic.{dite}
 use native.Mathlib.Decide.{dec_le}
-use Rattle.picture_model.specs.Pictures.{in_a_row, part, pixel, pixels_in, row_of}
+use Rattle.picture_model.specs.Pictures.{in_a_row, part, pixel, pixels_in, row_of, plane}
 use Rattle.picture_model.proofs.PictureSizes.{length-pixel, length-in_a_row}
 use Rattle.tile_claims.specs.declared.key.Key.{Key}
-use Rattle.tile_claims.specs.Parts.{scene_of, rect_of, plane, row_shown, AreRows, IsSized, IsFilled}
+use Rattle.tile_claims.specs.Parts.{scene_of, rect_of, row_shown, AreRows, IsSized, IsFilled}
 use Rattle.tile_claims.specs.declared.seats.Claim.{Claim}
 use Rattle.tile_claims.specs.declared.seats.Claims.{Claims}
 use Rattle.tile_claims.specs.Seats.{pixels_of, IsClaimOf, with_row as claim_with_row}

@@ -3,10 +3,8 @@ use Rattle.std.specs.Prelude.{◌≡◌, ℕ, zero, suc, ◌+◌, ◌*◌, ◌<�
 use mathlib.Core.Option.{some}
 use lib.ListN.{get_elem?}
 use Rattle.fx_math.specs.declared.scene.Scene.{Scene}
-use Rattle.picture_model.specs.declared.records.Plane.{Plane}
-use Rattle.picture_model.specs.declared.records.Plane.TheVariants.{Color, PrimitiveId, ObjectId, InstanceId}
 use Rattle.picture_model.specs.declared.records.Rect.{Rect}
-use Rattle.picture_model.specs.Pictures.{in_a_row, part, pixel, row_of}
+use Rattle.picture_model.specs.Pictures.{in_a_row, part, pixel, plane, row_of}
 use Rattle.picture_model.specs.Tiles.{tile_count, tile_rect}
 use Rattle.tile_claims.specs.declared.key.Key.{Key}
 use Rattle.tile_claims.specs.Pixels.{Pixels, row}
@@ -22,13 +20,6 @@ tiles_of key = tile_count key.w key.h
 -- where a tile lies in it
 abbrev pub rect_of : Key → ℕ → Rect
 rect_of key tile = tile_rect key.w key.h tile
-
--- the picture of a channel
-abbrev pub plane : ℕ → Plane
-plane zero = Color
-plane (suc zero) = PrimitiveId
-plane (suc (suc zero)) = ObjectId
-plane (suc (suc (suc n))) = InstanceId
 
 -- what a tile shows: its parts of the four pictures, one behind the other
 abbrev pub shown : Key → ℕ → List ℕ

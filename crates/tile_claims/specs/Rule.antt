@@ -7,7 +7,8 @@ use Rattle.tile_claims.specs.declared.key.Key.{Key}
 use Rattle.tile_claims.specs.declared.view.View.{View}
 use Rattle.tile_claims.specs.Parts.{tiles_of, IsSized, IsFilled}
 use Rattle.tile_claims.specs.Pixels.{Pixels}
-use Rattle.tile_claims.specs.Views.{times, open_tiles, claimed, one_if, taken, claiming, too_late, giving, looking_at_claims, looking_at_gives, stopping, collecting, IsAlone}
+use Rattle.dev_types.specs.Counting.{times}
+use Rattle.tile_claims.specs.Views.{open_tiles, claimed, one_if, taken, claiming, too_late, giving, looking_at_claims, looking_at_gives, stopping, collecting, IsAlone}
 
 -- a table of claims: its words are the counts of claimed and of given tiles, and slot i has tile i's pixels
 abbrev pub ClaimTable : Type 0

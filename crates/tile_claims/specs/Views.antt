@@ -5,10 +5,6 @@ use Rattle.tile_claims.specs.declared.view.Looks.{Looks}
 use Rattle.tile_claims.specs.declared.view.View.{View}
 use Rattle.tile_claims.specs.Pixels.{Pixels}
 
--- how often the tile stands in the list
-abbrev pub times : ℕ → List ℕ → ℕ
-times tile list = count_by (λ t. t == tile) list
-
 -- the open tile, if there is one
 abbrev pub open_tiles : View → List ℕ
 open_tiles v = option_to_list v.opened

@@ -5,7 +5,8 @@ ghost use Rattle.picture_model.specs.Limits.{IsSide};
 ghost use Rattle.tile_claims.specs.Parts.{tiles_of, IsFilled};
 ghost use Rattle.tile_claims.specs.Pixels.{row};
 ghost use Rattle.tile_claims.specs.Rule.{HasSeenAll};
-ghost use Rattle.tile_claims.specs.Views.{new_view, times, claimed, claiming, too_late, giving, looking_at_claims, looking_at_gives, stopping, splitting, beside, collecting, IsAlone};
+ghost use Rattle.dev_types.specs.Counting.{times};
+ghost use Rattle.tile_claims.specs.Views.{new_view, claimed, claiming, too_late, giving, looking_at_claims, looking_at_gives, stopping, splitting, beside, collecting, IsAlone};
 ghost use Rattle.tile_claims.specs.Seats.{frame_of, key_of, view, tile_of, pixels_of, IsSeatOf, IsSameSeat, IsClaimOf, IsOpenAt, IsReady, with_row};
 ghost use Rattle.tile_claims.specs.contracts.seats.Claim.{the_row};
 

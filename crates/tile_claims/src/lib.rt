@@ -34,6 +34,3 @@ pub use laws::{
 pub use pixels::TilePixels;
 pub use scene_name::SceneName;
 pub use seats::{Claim, Claims, Seat};
-
-#[cfg(test)]
-mod tests;

@@ -3,7 +3,8 @@ ghost use Rattle.std.specs.Prelude.{◌≡◌, ℕ, ◌+◌, ◌^◌, ◌<◌, �
 ghost use Rattle.atomic_table.specs.Table.{rest};
 ghost use Rattle.tile_claims.specs.Parts.{tiles_of, IsSized, IsFilled};
 ghost use Rattle.tile_claims.specs.Rule.{HasSeenAll};
-ghost use Rattle.tile_claims.specs.Views.{times, claimed, claiming, too_late, giving, looking_at_claims, looking_at_gives, stopping, splitting, beside, collecting, IsAlone};
+ghost use Rattle.dev_types.specs.Counting.{times};
+ghost use Rattle.tile_claims.specs.Views.{claimed, claiming, too_late, giving, looking_at_claims, looking_at_gives, stopping, splitting, beside, collecting, IsAlone};
 
 use crate::frame::{Frame, RawSeat};
 use crate::pixels::TilePixels;

@@ -5,13 +5,13 @@ use mathlib.Core.Logic.{dite}
 use native.Mathlib.Decide.{dec_le}
 use Rattle.fx_math.specs.declared.scene.Scene.{Scene}
 use Rattle.picture_model.proofs.PixelRows.{in_a_row-suc}
-use Rattle.picture_model.specs.Pictures.{in_a_row, pixel}
+use Rattle.picture_model.specs.Pictures.{in_a_row, pixel, plane}
 use Rattle.picture_model.specs.Tiles.{tile_rect}
 use Rattle.picture_model.specs.declared.records.Plane.{Plane}
 use Rattle.picture_model.proofs.PictureSizes.{length-pixel, length-in_a_row}
 use Rattle.tile_claims.proofs.RowLaws.{row-with_row, row-with_other, rows_fill}
 use Rattle.tile_claims.specs.declared.key.Key.{Key}
-use Rattle.tile_claims.specs.Parts.{scene_of, rect_of, plane, row_shown, IsSized, IsFilled}
+use Rattle.tile_claims.specs.Parts.{scene_of, rect_of, row_shown, IsSized, IsFilled}
 use Rattle.tile_claims.specs.Pixels.{Pixels, IsWhole, row, with_row}
 use Rattle.tile_render.specs.Filled.{AreFilled}
 

@@ -3,12 +3,6 @@
 
 mod pixels;
 mod rows;
-#[cfg(test)]
-mod tests;
-#[cfg(test)]
-mod tests_store;
-#[cfg(test)]
-mod tests_worlds;
 mod tiles;
 
 pub use tiles::render;

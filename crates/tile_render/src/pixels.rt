@@ -7,8 +7,8 @@ ghost use Rattle.picture_model.specs.Pictures.{front, id_bytes};
 ghost use Rattle.picture_model.specs.Shading.{blend_any, finish_blend, hit_row, placed, primitive_at, shade};
 ghost use Rattle.tile_render.specs.Rays.{Shows};
 
-use fx_math::{Lighting, NO_ID, Primitive, Ray};
-use picture_model::{Hit, PrimSource};
+use fx_math::{Lighting, Primitive, Ray};
+use picture_model::{Hit, PrimSource, id_bytes};
 use ray_kernel::{hit_after, nearest};
 use shade_core::{Blend, HitRow, blend_hit, finish_blend};
 use world_snapshot::Prepared;
@@ -42,13 +42,6 @@ pub(crate) fn pixel_of(
         object_id: id_bytes(front.map(|p| p.object_id)),
         instance_id: id_bytes(front.map(|p| p.instance_id)),
     }
-}
-
-/// An id, lowest byte first, where there may be none.
-fn id_bytes(id: Option<u32>) -> [u8; 4]
-    ensures { result ≡ id_bytes id }
-{
-    id.unwrap_or(NO_ID).to_le_bytes()
 }
 
 /// The nearest hit of the ray.

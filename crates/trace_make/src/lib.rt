@@ -11,6 +11,3 @@ mod shapes;
 mod traces;
 
 pub use traces::make;
-
-#[cfg(test)]
-mod tests;

@@ -17,6 +17,3 @@ pub use components::value_of_numbers;
 pub use fault::{TraceError, TraceFault};
 pub use reader::read_trace;
 pub use sqlite_items::Items;
-
-#[cfg(test)]
-mod tests;

@@ -1,4 +1,3 @@
 pub mod PlaceLaws
-pub mod SumLaws
 pub mod ShareLaws
 pub mod TurnKept

@@ -7,7 +7,8 @@ use Rattle.std.proofs.lemmas.List.Sums.{sum_by-cons, sum_by-append}
 use Rattle.std.proofs.Math.Seq.{drop-append_seam}
 use Rattle.std.specs.List.{cons_option}
 use Rattle.std.proofs.lemmas.List.Elements.{filter_map-append}
-use Rattle.turn_lock.specs.Histories.{Extends, place_if, places_from, places, new_places, times, AreRising, AreApart, with_place, merged, longer, shorter, callers, AddsOneCall}
+use Rattle.dev_types.specs.Counting.{times}
+use Rattle.turn_lock.specs.Histories.{Extends, place_if, places_from, places, new_places, AreRising, AreApart, with_place, merged, longer, shorter, callers, AddsOneCall}
 
 pub times-same : (p : ℕ) (xs : List ℕ) → times p (p ∷ xs) ≡ 1 + times p xs
 times-same p xs = sum_by-cons (λ q. cond (q == p) 1 0) p xs ∙ ap (λ b. cond b 1 0 + times p xs) (eq-eqb p p refl)

@@ -12,11 +12,12 @@ use native.Mathlib.Decide.{ℕ_discrete}
 use prog.Atomic.{either}
 use Rattle.std.proofs.Math.Nat.{pow-succ'}
 use Rattle.turn_lock.specs.declared.view.View.{View}
-use Rattle.turn_lock.specs.Histories.{Extends, places, new_places, times, AreRising, longer, callers}
+use Rattle.dev_types.specs.Counting.{times}
+use Rattle.turn_lock.specs.Histories.{Extends, places, new_places, AreRising, longer, callers}
 use Rattle.turn_lock.specs.Views.{parts_at, IsWhole, first_view, spent_view, view_in, entering, leaving, halved, beside, joined}
 use Rattle.std.proofs.lemmas.List.{set-get_or}
 use Rattle.turn_lock.specs.Rule.{Knows, Kept, Sat, Grabs, Looks, LetsGo}
-use Rattle.turn_lock.proofs.SumLaws.{sum_set, sum_same, sum_at, sum_none, sum_double, at_length}
+use Rattle.dev_types.proofs.SumLaws.{sum_set, sum_same, sum_at, sum_none, sum_double, at_length}
 use Rattle.turn_lock.proofs.ShareLaws.{finer, parts_at-half, parts_at-both, parts_at-whole, parts_at-none}
 use Rattle.turn_lock.proofs.PlaceLaws.{times-append, times-merged, times-rising, rising-wider, rising-append, rising-merged, rising-same, rising-places, places-extended, rising-new_places, places_from-notes, extends-same, extends-later, extends-length, longer-extends, shorter-longer, length-longer}
 

@@ -2,6 +2,7 @@
 use Rattle.std.specs.Prelude.{◌≡◌, ◌==◌, ◌⊎◌, ℕ, ◌+◌, ◌<◌, ◌≤◌, List, [], ◌∷◌, ◌++◌, Option, Some, None, if◌then◌else◌, length, drop, count_by, nat_lt}
 use Rattle.std.specs.List.{filter_map}
 use Rattle.std.specs.Coded.{Unit-prop, le_prop}
+use Rattle.dev_types.specs.Counting.{times}
 
 -- the history `after` begins with `before`
 abbrev pub Extends : {E : Type 0} → List E → List E → Type 0
@@ -32,10 +33,6 @@ places by history = places_from by 1 history
 -- the places of the called entries that `after` has beyond `before`
 abbrev pub new_places : {E : Type 0} → (E → Option ℕ) → List E → List E → List ℕ
 new_places by before after = places_from by (length before + 1) (added before after)
-
--- how often the place stands in the list
-abbrev pub times : ℕ → List ℕ → ℕ
-times place list = count_by (λ p. p == place) list
 
 -- the places rise, each above `low` and none above `high`
 abbrev pub AreRising : ℕ → ℕ → List ℕ → Type 0

@@ -5,7 +5,8 @@ use mathlib.Core.Option as maybe
 use lib.ListN.{get_elem?}
 use Rattle.atomic_table.specs.Table.{State, Me, Step}
 use Rattle.turn_lock.specs.declared.view.View.{View}
-use Rattle.turn_lock.specs.Histories.{Extends, places, times, AreApart}
+use Rattle.dev_types.specs.Counting.{times}
+use Rattle.turn_lock.specs.Histories.{Extends, places, AreApart}
 use Rattle.turn_lock.specs.Views.{PlacesRise, parts_at, entering, leaving}
 
 -- what one view may say, where `log` is the history last let go, and `holder` is the seat that holds the state where the word is 1

@@ -26,6 +26,3 @@ pub use journaled::Journaled;
 pub use pass::Pass;
 pub use rule::places_are_apart;
 pub use turn::{Held, Turn};
-
-#[cfg(test)]
-mod tests;

@@ -3,10 +3,10 @@ ghost use Rattle.std.specs.Prelude.{◌≡◌, ◌≤◌, ◌^◌, IsTrue, IfOk}
 ghost use Rattle.dev_types.specs.Bounded.{is_name};
 ghost use Rattle.scene_read.specs.Reading.{IsCounted, array_in, content_of};
 
-use crate::readers::named;
-use byte_view::{Strided, fits_block};
+use byte_view::Strided;
 use dev_types::{Bytes, DataType, Handle, NoMemory};
 use scene_read::Objects;
+use scene_read::readers::named;
 use std::alloc::Global;
 use std::marker::Model;
 
@@ -64,10 +64,6 @@ fn captured<O: Objects>(alloc: Global, state: &O, h: Handle) -> Result<Option<He
         return Ok(None);
     };
     let (ty, stride, count) = (elements.data_type(), elements.stride(), elements.len());
-    if !fits_block(ty, stride, count, block.as_slice().len()) {
-        // Elements that are lent always lie in their block.
-        return Err(NoMemory);
-    }
     Ok(Some(HeldArray {
         bytes: block.share(alloc)?,
         ty,

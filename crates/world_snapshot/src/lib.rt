@@ -4,9 +4,7 @@
 
 mod arrays;
 mod geometries;
-mod placings;
 mod prepared;
-mod readers;
 mod rows;
 mod searches;
 mod surfaces;

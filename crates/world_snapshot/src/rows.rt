@@ -7,12 +7,12 @@ ghost use Rattle.world_snapshot.specs.Captured.{primitives_of};
 ghost use Rattle.world_snapshot.specs.Worlds.{AreShapesWithin};
 
 use crate::geometries::captured_geometry;
-use crate::readers::live;
 use crate::surfaces::{Row, Surface};
 use dev_types::{Handle, NoMemory};
 use fx_math::{Place, Shape, Vec3, reach};
 use kind_tables::Kind;
 use picture_model::PrimSource;
+use scene_read::scenes::live;
 use scene_read::{Objects, Spot, Visit};
 use std::alloc::{AllocError, Global};
 use std::marker::Model;

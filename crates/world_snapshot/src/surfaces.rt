@@ -5,11 +5,10 @@ ghost use Rattle.scene_read.specs.Starts.{visited_object};
 ghost use Rattle.world_snapshot.specs.Captured.{primitive_of, shape_count};
 
 use crate::geometries::Geometry;
-use crate::placings::Placing;
-use crate::readers::{color, id, scalar};
 use dev_types::Handle;
-use fx_math::{Place, Primitive, Shape};
-use scene_read::{Objects, Spot};
+use fx_math::{Place, Placing, Primitive, Shape};
+use scene_read::readers::{color, id, scalar};
+use scene_read::{Objects, Spot, Subject};
 use std::marker::Model;
 use std::sync::Arc;
 
@@ -57,14 +56,15 @@ impl Surface {
         ensures object_id { result.object_id ≡ id_in (value_at (visited_object (O.objects state.now) surface) (codes "id")) }
         ensures geometry { result.geometry ≡ geometry }
     {
+        let material = Subject::visited(material);
         Surface {
             inst: spot.inst,
             surf: spot.surf,
             placing: Placing::new(&spot.transform),
             instance_id: spot.instance_id,
-            color: color(state, material, "color"),
-            opacity: scalar(state, material, "opacity"),
-            object_id: id(state, surface, "id"),
+            color: color(state, &material, "color"),
+            opacity: scalar(state, &material, "opacity"),
+            object_id: id(state, &Subject::visited(surface), "id"),
             geometry,
         }
     }

@@ -18,7 +18,7 @@ pub returns-in-GeometryTriangle : goal.returns-in-GeometryTriangle
 returns-in-GeometryTriangle g c =
     let kind : option_map (λ o. o.kind) (object_at (g.O.Objects.objects c.args.state.now) c.args.h) ≡ Some GeometryTriangle =
     sym c.kind.ensures ∙ c.in-Some.is ∙ ap (λ (k : Kind). Some k) c.in-GeometryTriangle.is in
-    rw (triangles_read (g.O.Objects.objects c.args.state.now) c.args.h c.args.m.now kind, ← c.array-positions.ensures.value, ← c.array-indices.ensures.value) c.with_triangles.ensures
+    rw (triangles_read (g.O.Objects.objects c.args.state.now) c.args.h c.args.m.now kind, ← c.array-positions.ensures.value, ← c.array-indices.ensures.value, ← c.new-placing.ensures) c.with_triangles.ensures
 
 pub returns-in-GeometrySphere : goal.returns-in-GeometrySphere
 returns-in-GeometrySphere g c =
@@ -26,7 +26,7 @@ returns-in-GeometrySphere g c =
     sym c.kind.ensures ∙ c.in-Some.is ∙ ap (λ (k : Kind). Some k) c.in-GeometrySphere.is in
     let common : c.scalar-common.result ≡ common_radius (unwrap_or (object_at (g.O.Objects.objects c.args.state.now) c.args.h) (nothing_of FrameDefault)) =
     c.scalar-common.ensures ∙ ap (λ (s : Subject). scalar_of (object_of (g.O.Objects.objects c.args.state.now) s) (codes "radius")) c.visited.ensures in
-    rw (spheres_read (g.O.Objects.objects c.args.state.now) c.args.h c.args.m.now (nothing_of FrameDefault) kind, ← c.array-positions.ensures.value, ← c.array-radii.ensures.value, ← common)
+    rw (spheres_read (g.O.Objects.objects c.args.state.now) c.args.h c.args.m.now (nothing_of FrameDefault) kind, ← c.array-positions.ensures.value, ← c.array-radii.ensures.value, ← common, ← c.new-placing.ensures)
     (rw (to_z-of_z w32 c.scalar-common.result (search rules)) at c.with_spheres.ensures)
 
 pub returns-in_default-kind : goal.returns-in_default-kind

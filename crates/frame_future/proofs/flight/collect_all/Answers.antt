@@ -3,8 +3,8 @@ use Rattle.tile_claims.specs.declared.view.View.{View}
 use Rattle.tile_claims.specs.Pixels.{Pixels}
 use Rattle.tile_claims.specs.Rule.{HasSeenAll}
 use Rattle.tile_claims.specs.Seats.{key_of, view}
-use Rattle.tile_claims.specs.Views.{times}
-use Rattle.tile_claims.proofs.SumLaws.{times-other}
+use Rattle.dev_types.specs.Counting.{times}
+use Rattle.dev_types.proofs.SumLaws.{times-other}
 use Rattle.frame_future.specs.Pixels.{AreTiles}
 use Rattle.frame_future.proofs.Collected.{are_more}
 use Rattle.frame_future.proofs.flight.collect_all.Goals as goal

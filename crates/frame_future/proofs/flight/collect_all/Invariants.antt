@@ -1,7 +1,7 @@
 use Rattle.std.proofs.Common.{◌≡◌, ◌≤◌, ℕ, true, length, vec_capacity}
 use Rattle.tile_claims.specs.Rule.{HasSeenAll}
 use Rattle.tile_claims.specs.Seats.{key_of, view, IsSeatOf}
-use Rattle.tile_claims.specs.Views.{times}
+use Rattle.dev_types.specs.Counting.{times}
 use Rattle.frame_future.specs.Pixels.{AreTiles}
 use Rattle.frame_future.proofs.flight.collect_all.Given as goal
 

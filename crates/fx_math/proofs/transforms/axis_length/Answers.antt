@@ -5,7 +5,7 @@ use Rattle.fx_math.specs.Mat34.{axis_length}
 use Rattle.fx_math.specs.Root.{isqrt}
 use Rattle.fx_math.specs.Vec3.{dot}
 use Rattle.fx_math.proofs.Lengths.{dot_self}
-use Rattle.fx_math.proofs.Placing.{axis_small}
+use Rattle.fx_math.proofs.PlacedVectors.{axis_small}
 use Rattle.fx_math.proofs.transforms.axis_length.Goals as goal
 use mir.Syntax.{w128}
 

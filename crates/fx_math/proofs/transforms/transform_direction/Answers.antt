@@ -2,7 +2,7 @@ use Rattle.std.proofs.Common.{◌^◌, ◌≤◌, rules, subst}
 use Rattle.fx_math.specs.declared.vectors.Vec3.{Vec3}
 use Rattle.fx_math.specs.Mat34.{linear}
 use Rattle.fx_math.specs.Vec3.{reach, scaled_down}
-use Rattle.fx_math.proofs.Placing.{floor_of_row, reach-linear}
+use Rattle.fx_math.proofs.PlacedVectors.{floor_of_row, reach-linear}
 use Rattle.fx_math.proofs.Kept.{kept}
 use Rattle.fx_math.proofs.Sizes.{same_vec}
 use Rattle.fx_math.proofs.transforms.transform_direction.Goals as goal

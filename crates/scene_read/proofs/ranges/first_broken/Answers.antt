@@ -7,12 +7,12 @@ use Rattle.scene_read.proofs.TestFacts.{first_broken_from}
 use Rattle.scene_read.specs.Tested.{test_of, tests_in}
 use Rattle.scene_read.proofs.ranges.first_broken.Goals as goal
 
-pub name_of-requires : goal.name_of-requires
-name_of-requires c = list_all-map_at test_of (λ test. is_name test.0) c.args.tests.now c.loop-name.name-index _ c.loop-name-test.true c.requires
+pub of-requires : goal.of-requires
+of-requires c = list_all-map_at test_of (λ test. is_name test.0) c.args.tests.now c.loop-name.name-index _ c.loop-name-test.true c.requires
 
 pub returns-then-not-holds : goal.returns-then-not-holds
 returns-then-not-holds c =
-    ap Some c.name_of.ensures ∙ sym (first_broken_from c.args.tests.now c.loop-name.name-index _ false c.loop-name-test.true c.if-not-holds.true) ∙ c.loop-name.invariant
+    ap Some c.of.ensures ∙ sym (first_broken_from c.args.tests.now c.loop-name.name-index _ false c.loop-name-test.true c.if-not-holds.true) ∙ c.loop-name.invariant
 
 pub loop-name-preserved : goal.loop-name-preserved
 loop-name-preserved c =

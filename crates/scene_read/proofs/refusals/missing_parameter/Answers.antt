@@ -17,8 +17,8 @@ lacks-requires g c =
     list_all-map_at (λ text. text.now) is_name c.parameters_of-text-items.result.now c.loop-text.text-index _ c.loop-text-test.true
     (rw c.parameters_of-text-items.ensures.value c.parameters_of-text-items.ensures.names)
 
-pub name_of-requires : goal.name_of-requires
-name_of-requires g c =
+pub of-requires : goal.of-requires
+of-requires g c =
     list_all-map_at (λ text. text.now) is_name c.parameters_of-text-items.result.now c.loop-text.text-index _ c.loop-text-test.true
     (rw c.parameters_of-text-items.ensures.value c.parameters_of-text-items.ensures.names)
 
@@ -26,7 +26,7 @@ pub returns-then-lacks : goal.returns-then-lacks
 returns-then-lacks g c =
     let o = visited_object (g.O.Objects.objects c.args.state.now) c.args.h in
     let kind : c.kind-kind.result ≡ o.kind = c.kind-kind.ensures ∙ ap (λ (s : Subject). (object_of (g.O.Objects.objects c.args.state.now) s).kind) c.visited.ensures in
-    ap Some c.name_of.ensures
+    ap Some c.of.ensures
     ∙ sym (found_from (lacks c.kind-kind.result o) (λ text. text.now) c.parameters_of-text-items.result.now c.loop-text.text-index _ true c.loop-text-test.true (sym c.if-lacks.true ∙ c.lacks.ensures))
     ∙ c.loop-text.invariant
     ∙ ap (find (lacks c.kind-kind.result o)) c.parameters_of-text-items.ensures.value

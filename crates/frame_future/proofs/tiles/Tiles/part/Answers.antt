@@ -13,7 +13,7 @@ row-requires-clause-row c =
 pub returns-clause-value : goal.returns-clause-value
 returns-clause-value c =
     let s = c.self.inside in
-    c.row.ensures ∙ ap (λ n. row c.index.result.now n (c.args.y % 16)) c.place_of.ensures.value
+    c.row.ensures ∙ ap (λ n. row c.index.result.now n (c.args.y % 16)) c.number.ensures.value
     ∙ (part_found (key_of s.of.value) c.args.self.now s.pixels.items s.w c.div_ceil.result c.args.channel c.args.y c.args.column c.index.result.now c.self.view_is
     c.self.invariant.0 c.self.invariant.2 c.div_ceil.ensures c.requires.row c.requires.column c.index.ensures).1
 

@@ -1,0 +1,4 @@
+use Rattle.flight_tests.proofs.flights.naming.Given as goal
+
+abbrev pub ghost-of : goal.ghost-of
+ghost-of a = a._about.now

@@ -1,0 +1,9 @@
+//! The turn, the tiles that are claimed, and the phases of frames. These are tests alone: they stand in a crate of their own, so that the crates that they run are proved once.
+#![tactic(auto)]
+
+#[cfg(test)]
+mod flights;
+#[cfg(test)]
+mod tiles;
+#[cfg(test)]
+mod turns;

@@ -1,4 +1,0 @@
-use Rattle.tile_render.proofs.tests.naming.Given as goal
-
-abbrev pub ghost-of : goal.ghost-of
-ghost-of a = a._about.now
