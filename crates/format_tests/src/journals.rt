@@ -331,7 +331,7 @@ fn replies_have_their_words(rt: HostRuntime) -> Result<(), Fail> {
     expect_reply(
         &rt,
         value,
-        "5 3 commit 1 -> value !STRING 0100000000000000\n",
+        "5 3 commit 1 -> value STRING 0100000000000000\n",
     );
     let names = Names::of(vec![in alloc; name("sphere")?, name("triangle")?]?);
     let line = "5 3 commit 1 -> names sphere triangle\n";

@@ -2,28 +2,16 @@
 ghost use Rattle.std.specs.Prelude.{◌≡◌, IfOk, IsSome, Some};
 ghost use Rattle.seq_model.specs.Answers.{mapped_picture};
 ghost use Rattle.seq_model.specs.Histories.{frame_at};
-ghost use Rattle.seq_model.specs.Pictures.{picture_at, plane_of};
+ghost use Rattle.seq_model.specs.Pictures.{picture_at};
 ghost use Rattle.seq_model.specs.Refusals.{phase_at};
 
-use dev_types::{Bytes, Channel, Handle, NoMemory};
 use kind_tables::type_of_channel;
+use dev_types::{Bytes, Channel, Handle, NoMemory};
 use picture_model::{Plane, picture};
 use plain_journal::record::Record;
 use plain_objects::objects::Shows;
 use seq_model::Reply;
 use std::alloc::Global;
-
-/// Which picture a channel shows.
-fn plane_of(channel: Channel) -> Plane
-    ensures { result ≡ plane_of channel }
-{
-    match channel {
-        Channel::Color => Plane::Color,
-        Channel::PrimitiveId => Plane::PrimitiveId,
-        Channel::ObjectId => Plane::ObjectId,
-        Channel::InstanceId => Plane::InstanceId,
-    }
-}
 
 /// A list of bytes as a block.
 fn block_of(alloc: Global, bytes: Vec<u8>) -> Result<Bytes, NoMemory>
@@ -47,7 +35,7 @@ fn picture_of(
     ensures { IfOk result (λ rows. rows ≡ picture_at past.now.seen ticket channel) }
 {
     let render = past.render(ticket);
-    let rows = picture(alloc, &render.scene, plane_of(channel))?;
+    let rows = picture(alloc, &render.scene, Plane::numbered(channel.number()))?;
     block_of(alloc, rows)
 }
 

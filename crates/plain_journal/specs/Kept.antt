@@ -10,6 +10,7 @@ use Rattle.seq_model.specs.Legal.{Legal}
 use Rattle.seq_model.specs.Pictures.{has_channel, scene_at}
 use Rattle.seq_model.specs.Steps.{Past, after}
 use Rattle.plain_objects.specs.Counts.{count_at}
+use Rattle.dev_types.specs.Channels.{number_of_channel}
 use Rattle.plain_journal.specs.declared.renders.Render.{Render}
 
 -- the render with this ticket

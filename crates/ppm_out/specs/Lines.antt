@@ -43,11 +43,11 @@ abbrev pub hex : List ℕ → List ℕ
 hex [] = codes "-"
 hex (byte ∷ bytes) = hex_digits (byte ∷ bytes)
 
--- a mark before the type of an object that has no object type
+-- a mark before the type of an object that was handed in with no object type
 abbrev pub type_mark : Value → List ℕ
 type_mark v = if is_well_typed v then [] else codes "!"
 
--- the name of a value's type
+-- the name of the type with which a value was handed in
 abbrev pub type_word : Value → List ℕ
 type_word v = type_mark v ++ name_of_type (type_of v)
 
@@ -130,7 +130,7 @@ reply_words (Lent loan) = codes "lent" ∷ decimal loan ∷ []
 reply_words (Mapped width height ty rows) = codes "mapped" ∷ decimal width ∷ decimal height ∷ name_of_type ty ∷ hex rows ∷ []
 reply_words Ready = codes "ready" ∷ []
 reply_words (NotReady given tiles) = codes "notready" ∷ decimal given ∷ decimal tiles ∷ []
-reply_words (Val value) = codes "value" ∷ type_word value ∷ hex (bytes_of value) ∷ []
+reply_words (Val value) = codes "value" ∷ name_of_type (type_of value) ∷ hex (bytes_of value) ∷ []
 reply_words (Listed names) = codes "names" ∷ names
 reply_words (Info info) = codes "info" ∷ types_word info.types ∷ need_words info.required info.default
 reply_words (Denied refused) = codes "refused" ∷ decimal (refusal_number refused) ∷ refusal_words refused

@@ -5,7 +5,7 @@ ghost use Rattle.ppm_out.specs.Lines.{spaced, continued, first_word, call_words,
 ghost use Rattle.ppm_out.specs.Ppm.{KeepsFront};
 
 use crate::entries::CallText;
-use crate::words::{push_bytes, push_number, push_text, push_value, push_word};
+use crate::words::{push_bytes, push_given_value, push_number, push_text, push_word};
 use dev_types::{Bytes, NoMemory, Origin};
 use std::alloc::Global;
 
@@ -123,7 +123,7 @@ fn push_others(alloc: Global, call: &CallText, out: &mut Vec<u8>) -> Result<(), 
             push_number(alloc, *stride, out)?;
             push_memory(alloc, *origin, bytes, out)
         }
-        CallText::SetParameter { value, .. } => push_value(alloc, value, out),
+        CallText::SetParameter { value, .. } => push_given_value(alloc, value, out),
         CallText::UnmapArray { bytes, .. } => push_bytes(bytes.as_slice(), out),
         CallText::MapParameterArray { elem, count, .. } => {
             push_word(elem.name(), out)?;

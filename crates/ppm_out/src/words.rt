@@ -1,6 +1,7 @@
 //! Words of a line: each goes behind what stands there, after a space.
 ghost use Rattle.std.specs.Prelude.{◌≡◌, [], ◌∷◌, ◌++◌, codes, decimal, OnOk};
-ghost use Rattle.dev_types.specs.ValueBytes.{bytes_of};
+ghost use Rattle.dev_types.specs.ValueBytes.{bytes_of, type_of};
+ghost use Rattle.dev_types.specs.Words.{name_of_type};
 ghost use Rattle.ppm_out.specs.Lines.{continued, hex, type_mark, type_word};
 ghost use Rattle.ppm_out.specs.Ppm.{KeepsFront};
 
@@ -49,6 +50,20 @@ pub(crate) fn push_encoded(alloc: Global, value: &Value, out: &mut Vec<u8>) -> R
 
 /// A value's type, and its bytes.
 pub(crate) fn push_value(alloc: Global, value: &Value, out: &mut Vec<u8>) -> Result<(), NoMemory>
+    ensures ok { OnOk result (out.new.items
+        ≡ out.old.items ++ continued (name_of_type (type_of value.now) ∷ hex (bytes_of value.now) ∷ [])) }
+    ensures front { KeepsFront out.old.items out.new.items }
+{
+    push_word(value.data_type().name(), out)?;
+    push_encoded(alloc, value, out)
+}
+
+/// The type with which a value was handed in, marked where it is that of no value, and its bytes.
+pub(crate) fn push_given_value(
+    alloc: Global,
+    value: &Value,
+    out: &mut Vec<u8>,
+) -> Result<(), NoMemory>
     ensures ok { OnOk result (out.new.items
         ≡ out.old.items ++ continued (type_word value.now ∷ hex (bytes_of value.now) ∷ [])) }
     ensures front { KeepsFront out.old.items out.new.items }
