@@ -1,10 +1,10 @@
 -- What is known of what a frame has to show.
 use Rattle.std.specs.Prelude.{◌≡◌, false, slice_index_or}
+use Rattle.dev_types.specs.Channels.{number_of_channel}
 use Rattle.dev_types.specs.declared.handles.Channel.{Channel}
 use Rattle.seq_model.specs.Histories.{History}
 use Rattle.seq_model.specs.Pictures.{has_channel, tiles_at}
 use Rattle.seq_model.specs.State.{Phase, Empty, Flight, Done}
-use Rattle.dev_types.specs.Channels.{number_of_channel}
 use Rattle.call_answers.specs.declared.shown.Shown.{Shown}
 use Rattle.call_answers.specs.declared.shown.Shown.TheVariants as shown
 

@@ -1,13 +1,12 @@
 -- What a render of a frame takes from the state before it.
 use Rattle.std.specs.Prelude.{◌≡◌, ℕ, Bool, false, List, Option, slice_index_or}
 use Rattle.std.specs.Option.{is_some, option_and_then, option_map}
+use Rattle.dev_types.specs.Channels.{number_of_channel}
 use Rattle.dev_types.specs.Words.{name_of_channel}
 use Rattle.dev_types.specs.declared.handles.Channel.{Channel}
-use Rattle.dev_types.specs.declared.handles.Channel.TheVariants as channel
 use Rattle.kind_tables.specs.SceneObjects.{value_named}
 use Rattle.kind_tables.specs.Walks.{visited, walk}
 use Rattle.seq_model.specs.State.{State, object_at, scene_objects}
-use Rattle.dev_types.specs.Channels.{number_of_channel}
 use Rattle.past_laws.specs.Worlds.{world_of}
 
 -- all that the walk from an object visits

@@ -2,7 +2,6 @@
 #![tactic(auto)]
 
 pub mod changes;
-pub mod layouts;
 pub mod loans;
 mod marks;
 pub mod objects;
