@@ -66,12 +66,24 @@ pub fn bare(alloc: Global, kind: Kind) -> Object {
 
 /// A dense array of these values.
 pub fn array(alloc: Global, elem: DataType, values: &[Value]) -> Result<Object, Fail> {
+    spaced(alloc, elem, u64::from(size_of(elem)), values)
+}
+
+/// An array of these values, each so many bytes behind the one before, with bytes between them that mean nothing.
+pub fn spaced(
+    alloc: Global,
+    elem: DataType,
+    stride: u64,
+    values: &[Value],
+) -> Result<Object, Fail> {
     let mut bytes = Vec::new(alloc);
     for value in values {
         bytes.extend_from_slice(&encode_value(alloc, value)?)?;
+        for _between in u64::from(size_of(elem))..stride {
+            bytes.push(0xee)?;
+        }
     }
     let count = values.len() as u64;
-    let stride = u64::from(size_of(elem));
     if count > 1 << 28 || !fits_block(elem, stride, count, bytes.len()) {
         return Err("an array that fits")?;
     }

@@ -1,5 +1,5 @@
 // Worlds of a small store of objects, prepared: what they show, that they keep it, and why they are refused.
-use crate::store::{Store, array, bare, named, set_positions};
+use crate::store::{Object, Store, array, bare, named, set_positions, spaced};
 use bvh_build::Node;
 use dev_types::{DataType, Handle, Name, Refused, Value};
 use fx_math::{LightRow, NO_ID, Place, Primitive, Shape, Vec3};
@@ -216,4 +216,33 @@ fn a_world_is_refused_as_its_walk_is(rt: HostRuntime) -> Result<(), Fail> {
     mapped.mapped = true;
     store.add(5, mapped)?;
     refused(&rt, alloc, &store, Refused::ArrayMapped(Handle(5)))
+}
+
+/// Three positions, 24 bytes from one to the next.
+fn spaced_positions(alloc: Global) -> Result<Object, Fail> {
+    let values = [
+        Value::ScalarVec3(CORNERS[0]),
+        Value::ScalarVec3(CORNERS[1]),
+        Value::ScalarVec3(CORNERS[2]),
+    ];
+    spaced(alloc, DataType::ScalarVec3, 24, &values)
+}
+
+#[test]
+fn elements_may_stand_apart(rt: HostRuntime) -> Result<(), Fail> {
+    let mut store = world(rt.alloc(), Kind::GeometryTriangle)?;
+    store.add(1, spaced_positions(rt.alloc())?)?;
+    let prepared = shown(rt.alloc(), &store)?;
+    shows(&rt, &prepared, &[red(0, triangle())]);
+    Ok(())
+}
+
+#[test]
+fn a_world_whose_positions_are_lent_is_refused(rt: HostRuntime) -> Result<(), Fail> {
+    let alloc = rt.alloc();
+    let mut store = world(alloc, Kind::GeometryTriangle)?;
+    let mut positions = spaced_positions(alloc)?;
+    positions.mapped = true;
+    store.add(1, positions)?;
+    refused(&rt, alloc, &store, Refused::ArrayMapped(Handle(1)))
 }
