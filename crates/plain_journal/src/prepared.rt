@@ -13,10 +13,10 @@ ghost use Rattle.seq_model.specs.declared.calls.Call.TheVariants.{RenderFrame};
 ghost use Rattle.past_laws.specs.Prepared.{AreAsked, asks_for, reach_of, world_reach};
 ghost use Rattle.past_laws.specs.Worlds.{world_of};
 
-use kind_tables::object_in;
 use crate::record::Record;
 use dev_types::{Channel, Handle, Name, NoMemory, Value};
 use fx_math::Scene;
+use kind_tables::object_in;
 use scene_read::{Visit, Visits, scene, visits_from};
 use std::alloc::{AllocError, Global};
 
