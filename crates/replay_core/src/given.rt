@@ -10,8 +10,8 @@ ghost use Rattle.seq_model.specs.Refusals.{is_bad_layout};
 ghost use Rattle.seq_model.specs.Steps.{zeros};
 
 use crate::bindings::Labels;
-use dev_types::{Bytes, DataType, Name, NoMemory, Origin, size_of};
 use call_answers::layouts::is_bad_layout;
+use dev_types::{Bytes, DataType, Name, NoMemory, Origin, size_of};
 use std::alloc::{AllocError, Global};
 use trace_text::ArrayData;
 
