@@ -31,11 +31,7 @@ pub fn entered(past: &Record, alloc: Global, call: Call) -> Result<Call, (NoMemo
 }
 
 /// The reply to a call that maps a channel of a frame. The only error is want of memory.
-#[tactic(auto, unfolding(
-    seq_model::specs::Answers::answer,
-    seq_model::specs::Refusals::refusal,
-    seq_model::specs::Refusals::refusals_of
-))]
+#[tactic(auto, unfolding(seq_model::specs::Answers::answer, seq_model::specs::Refusals::refusal, seq_model::specs::Refusals::refusals_of))]
 fn mapping(past: &Record, alloc: Global, h: Handle, channel: Channel) -> Result<Reply, NoMemory>
     requires { IsSome (answer past.now (MapFrame h channel)) }
     ensures { IfOk result (λ reply. answer past.now (MapFrame h channel) ≡ Some reply) }

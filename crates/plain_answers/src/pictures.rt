@@ -5,8 +5,8 @@ ghost use Rattle.seq_model.specs.Histories.{frame_at};
 ghost use Rattle.seq_model.specs.Pictures.{picture_at};
 ghost use Rattle.seq_model.specs.Refusals.{phase_at};
 
-use kind_tables::type_of_channel;
 use dev_types::{Bytes, Channel, Handle, NoMemory};
+use kind_tables::type_of_channel;
 use picture_model::{Plane, picture};
 use plain_journal::record::Record;
 use plain_objects::objects::Shows;

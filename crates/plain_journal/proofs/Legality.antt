@@ -22,6 +22,8 @@ use Rattle.seq_model.specs.declared.calls.Reply.{Reply}
 use Rattle.seq_model.specs.declared.calls.Reply.TheVariants as reply
 use Rattle.plain_journal.proofs.SeenTiles.{SeesNone, answer_sees_none, like_itself}
 use Rattle.plain_journal.specs.Unseen.{IsUnseen}
+use Rattle.past_laws.proofs.OpenFacts.{open_lets, readings_more}
+use Rattle.past_laws.proofs.RenderFacts.{have_tiles}
 use Rattle.past_laws.specs.Open.{IsOpen}
 
 -- one more entry that told of no tile
