@@ -214,7 +214,7 @@ fewer f p (x ∷ xs) = by (p x) (fewer f p xs)
     by true less = one_less (f x) (filter_map f (filter p xs)) (filter_map f xs) less
     by false less = one_left_out (f x) (filter_map f (filter p xs)) (filter_map f xs) less
 
-fewer_flights : (root : ℕ × Object → Bool) (s : State) → length (flights (record s { objects = live root s.objects })) ≤ length (flights s)
+pub fewer_flights : (root : ℕ × Object → Bool) (s : State) → length (flights (record s { objects = live root s.objects })) ≤ length (flights s)
 fewer_flights root s =
     let tickets : ℕ × Object → Option ℕ = λ entry. ticket_in entry.1.phase in
     let kept : live root s.objects ≡ filter (lives root s.objects) s.objects = live_keeps root s.objects in

@@ -10,6 +10,7 @@ use Rattle.seq_model.specs.State.{State}
 use Rattle.seq_model.specs.Steps.{Past, after, is_reached, step, swept}
 use Rattle.seq_model.specs.declared.calls.Entry.{Entry}
 use Rattle.plain_objects.specs.Counts.{count_at}
+use Rattle.past_laws.proofs.Sizes.{fewer_flights}
 use Rattle.plain_journal.specs.Unseen.{IsUnseen}
 use Rattle.plain_journal.specs.Whole.{IsEntered, IsWhole, changed_in_past, past_in, swept_by}
 use Rattle.plain_journal.specs.declared.books.Books.{Books}
