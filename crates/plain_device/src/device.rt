@@ -35,7 +35,7 @@ pub struct Device<C: Client> {
 
 impl<C: Client> Model for Device<C> {
     ghost use Rattle.std.specs.Prelude.{◌≤◌, length};
-    ghost use Rattle.plain_journal.specs.Open.{IsOpen};
+    ghost use Rattle.past_laws.specs.Open.{IsOpen};
     ghost use Rattle.plain_device.specs.Views.{Seen};
 
     ghost Value = { Seen C };
