@@ -17,7 +17,7 @@ use Rattle.kind_tables.specs.Scenes.{lights_of, primitives_of, scene, scene_by}
 use Rattle.kind_tables.specs.Shapes.{shapes_of}
 use Rattle.kind_tables.specs.WalkRefusals.{fault_of, first_incomplete, first_limit, first_mapped, first_out_of_range, walk_refusal}
 use Rattle.kind_tables.specs.Walks.{below, walk, walk_from}
-use Rattle.seq_model.specs.Answers.{IsAnswer, answer, bounds_of}
+use Rattle.seq_model.specs.Answers.{IsAnswer, answer}
 use Rattle.seq_model.specs.Builds.{builds}
 use Rattle.seq_model.specs.Contents.{cleaned, entered}
 use Rattle.seq_model.specs.Histories.{frame_at, mine, public}
@@ -27,6 +27,7 @@ use Rattle.seq_model.specs.Pictures.{has_channel, picture_at, reached_at, scene_
 use Rattle.seq_model.specs.Refusals.{refusal, refusals_of}
 use Rattle.seq_model.specs.Room.{is_full}
 use Rattle.seq_model.specs.Steps.{after, change, discard, effect, end_flight, end_flights, is_reached, is_reached_by, step, swept, take_in, unmap_parameter, with_reach}
+use Rattle.seq_model.specs.Properties.{bounds_of}
 use Rattle.seq_model.specs.Told.{told, told_by, told_from}
 use Rattle.report_text.specs.Examples.{triangle_image}
 use Rattle.report_text.specs.Reports.{lines_from, report}
