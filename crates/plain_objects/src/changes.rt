@@ -10,9 +10,9 @@ ghost use Rattle.plain_objects.specs.Shown.{HasLength};
 ghost use Rattle.seq_model.specs.declared.calls.Reply.TheVariants as reply;
 ghost use Rattle.past_laws.specs.Suits.{IsLoanOf, Suits, parameters_changed, taken_array};
 
-use call_answers::layouts::needed_length;
 use crate::objects::{Array, Object, ParameterLoan, Shows};
 use crate::stage::Stage;
+use call_answers::layouts::needed_length;
 use dev_types::{Bytes, DataType, Handle, Name, NoMemory, Origin, size_of};
 use kind_tables::{Kind, kind_of};
 use seq_model::{Call, Reply};
