@@ -1,5 +1,5 @@
 -- What a source gave, and that a command which finds a trace is done where nothing fails.
-use Rattle.std.proofs.Common.{ℕ, ◌+◌, ◌≡◌, ◌<◌, ◌≤◌, ◌∙◌, ◌⊎◌, inl, inr, Bool, true, List, [], ◌++◌, Option, Some, None, Result, Ok, Err, refl, sym, ap, subst, length, arith, length-append}
+use Rattle.std.proofs.Common.{ℕ, ◌+◌, ◌≡◌, ◌<◌, ◌≤◌, ◌∙◌, ◌⊎◌, inl, inr, Bool, true, false, List, [], ◌++◌, Option, Some, None, Result, Ok, Err, refl, sym, ap, subst, length, arith, length-append}
 use Rattle.std.specs.Prelude.{cond, nat_lt}
 use Rattle.std.specs.Io.KnownBytes.{Consumes, IsAtEnd}
 use Rattle.std.proofs.lemmas.Bool.{cases_lt, lt-ltb}
@@ -28,6 +28,7 @@ is_no_error text trace broken ok err = let both : Ok trace ≡ Err broken = sym 
 
 not_too_long : (long : Bool) (fault : TraceFault) (other : Result Trace TraceFault) (trace : Trace) → long ≡ true → cond long (Err fault) other ≡ Ok trace → ⊥
 not_too_long true fault other trace is ok = absurd cc
+not_too_long false fault other trace is ok = absurd cc
 
 within : (bytes : List ℕ) (trace : Trace) → most_bytes < length bytes → trace_of bytes ≡ Ok trace → ⊥
 within bytes trace long ok = not_too_long (nat_lt most_bytes (length bytes)) _ _ trace (lt-ltb most_bytes (length bytes) long) ok
