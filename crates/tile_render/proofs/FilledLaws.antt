@@ -1,12 +1,10 @@
 -- A tile is filled row by row, and in each row channel by channel.
-use Rattle.std.proofs.Common.{◌≡◌, ℕ, suc, ◌+◌, ◌*◌, ◌/◌, ◌<◌, ◌≤◌, List, ◌++◌, length, arith, sym, ap, subst, ◌∙◌, lt_of_not-le}
-use Rattle.std.proofs.Math.Nat.{zero-div}
+use Rattle.std.proofs.Common.{◌≡◌, ℕ, suc, ◌+◌, ◌*◌, ◌<◌, ◌≤◌, List, ◌++◌, length, arith, sym, ap, subst, ◌∙◌, lt_of_not-le}
 use mathlib.Core.Logic.{dite}
 use native.Mathlib.Decide.{dec_le}
 use Rattle.fx_math.specs.declared.scene.Scene.{Scene}
 use Rattle.picture_model.proofs.PixelRows.{in_a_row-suc}
 use Rattle.picture_model.specs.Pictures.{in_a_row, pixel, plane}
-use Rattle.picture_model.specs.Tiles.{tile_rect}
 use Rattle.picture_model.specs.declared.records.Plane.{Plane}
 use Rattle.picture_model.proofs.PictureSizes.{length-pixel, length-in_a_row}
 use Rattle.tile_claims.proofs.RowLaws.{row-with_row, row-with_other, rows_fill}
@@ -57,9 +55,3 @@ one_more scene plane x0 n y bytes four is pixel_is =
     let f : ℕ → List ℕ = λ x. pixel scene plane x y in
     let one : suc n ≡ n + 1 = omega arith in
     (λ i. is i ++ pixel_is i) ∙ sym (in_a_row-suc f x0 n) ∙ ap (in_a_row f x0) one
-
--- ---- tiles
--- the first tile of a frame that is not higher is as high as the frame
-pub first_height : (w h : ℕ) → h ≤ 16 → (tile_rect w h 0).h ≡ h
-unfolding tile_rect
-first_height w h small = let lowest : 0 / ((w + 15) / 16) ≡ 0 = zero-div ((w + 15) / 16) in omega (arith, lowest, small)

@@ -1,7 +1,7 @@
 use Rattle.std.proofs.Common.{◌≤◌, arith, ap, ◌∙◌}
 use Rattle.fx_math.specs.declared.scene.Scene.{Scene}
 use Rattle.tile_claims.specs.Seats.{key_of}
-use Rattle.tile_render.proofs.FilledLaws.{first_height}
+use Rattle.scene_tests.proofs.TileFacts.{first_height}
 use Rattle.scene_tests.proofs.renders.one_tile.Goals as goal
 
 pub returns : goal.returns
