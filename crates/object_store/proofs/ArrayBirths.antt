@@ -1,5 +1,5 @@
 -- One array more.
-use Rattle.std.proofs.Common.{ℕ, zero, suc, ◌+◌, ◌≡◌, ◌<◌, ◌≤◌, ◌^◌, ◌∙◌, false, List, [], ◌∷◌, ◌++◌, Option, Some, None, refl, sym, ap, subst, arith}
+use Rattle.std.proofs.Common.{ℕ, zero, suc, ◌+◌, ◌≡◌, ◌<◌, ◌≤◌, ◌^◌, ◌∙◌, false, List, [], ◌∷◌, ◌++◌, Some, None, refl, sym, ap, subst, arith}
 use Rattle.std.specs.Option.{IfSome, IsSome, option_map}
 use Rattle.kind_tables.specs.declared.kinds.Kind.TheVariants.{Array as ArrayKind}
 use Rattle.handle_table.specs.HandleMaps.{HandleMap}

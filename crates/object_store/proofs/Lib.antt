@@ -2,7 +2,10 @@ pub mod ArrayBirths
 pub mod Births
 pub mod Changes
 pub mod Counted
+pub mod DeadOrder
+pub mod DeadSteps
 pub mod Deaths
+pub mod Dying
 pub mod Gathered
 pub mod HeldUp
 pub mod Holdings
@@ -15,6 +18,7 @@ pub mod PartFacts
 pub mod Readers
 pub mod References
 pub mod Removed
+pub mod Reversed
 pub mod Reslotted
 pub mod StagedArrays
 pub mod TakenIn

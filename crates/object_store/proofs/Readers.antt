@@ -1,12 +1,11 @@
 -- What is read of arrays is read of their objects.
-use Rattle.std.proofs.Common.{ℕ, ◌≡◌, ◌∙◌, Bool, true, false, List, Option, Some, None, refl, sym, ap}
+use Rattle.std.proofs.Common.{ℕ, ◌≡◌, ◌∙◌, true, false, List, Option, Some, None, refl, sym, ap}
 use Rattle.std.specs.Option.{is_some, option_and_then, option_map, option_map_or}
 use Rattle.handle_table.specs.HandleMaps.{HandleMap, value_at}
 use Rattle.kind_tables.specs.SceneObjects.{Block, SceneObject, object_at as scene_at, value_named}
 use Rattle.ref_counts.specs.CountMaps.{CountMap, public_at}
 use Rattle.array_objects.specs.Stores.{Arrays, array_at, elements_of, loan_of}
 use Rattle.array_objects.specs.declared.arrays.Array.{Array}
-use Rattle.byte_view.specs.Elements.{Elements}
 use Rattle.scene_read.specs.Reading.{content_of, lent as lent_block}
 use Rattle.seq_model.specs.State.{ArrayState, Object, State, array_loan, object_at, scene_object, scene_objects}
 use Rattle.object_store.specs.Kept.{Stops, Stored, stored}

@@ -18,11 +18,11 @@ use Rattle.array_objects.specs.declared.arrays.Array.{Array}
 use Rattle.array_objects.specs.declared.arrays.Block.{Block}
 use Rattle.seq_model.proofs.Keys.{at_within, key_is_other, rises_up}
 use Rattle.dev_types.specs.Counting.{times}
-use Rattle.seq_model.specs.State.{changed_at, object_at, with_object}
+use Rattle.seq_model.specs.State.{changed_at, with_object}
 use Rattle.seq_model.specs.Steps.{set_staged}
 use Rattle.object_store.specs.Kept.{AreCounted, AreParts, IsShort, Stops, Stored, stored}
 use Rattle.object_store.specs.Moves.{Moves, Restages}
-use Rattle.object_store.specs.Parts.{Part, array_of, at, fresh_part, holds_at, joined, keyed, named_in_block, object_of, set_in}
+use Rattle.object_store.specs.Parts.{Part, array_of, at, fresh_part, holds_at, joined, named_in_block, object_of, set_in}
 use Rattle.object_store.proofs.ArrayBirths.{parts_of_array, stored_array}
 use Rattle.object_store.proofs.Births.{parts_beyond}
 use Rattle.object_store.proofs.Keyed.{at_keyed, keyed_same, rises}

@@ -2,7 +2,7 @@
 use Rattle.std.proofs.Common.{ℕ, ◌+◌, ◌≡◌, ◌<◌, ◌≤◌, ◌^◌, ◌∙◌, ◌⊎◌, inl, inr, true, false, List, [], ◌∷◌, ◌++◌, Option, Some, None, length, refl, sym, ap, subst, arith}
 use Rattle.std.specs.Prelude.{◌==◌, ◌&&◌, Bool, cond}
 use Rattle.std.specs.BTreeMap.{is_at}
-use Rattle.std.specs.Option.{IfSome, IsSome, is_some, option_and_then, option_map, option_map_or}
+use Rattle.std.specs.Option.{IfSome, IsSome, option_and_then, option_map, option_map_or}
 use Rattle.std.specs.Ordering.{nat_cmp}
 use Rattle.std.proofs.lemmas.Bool.{and_from, and_right, cases_eq}
 use Rattle.std.proofs.lemmas.Bool.Decides.{nat_tests}
@@ -12,11 +12,11 @@ use Rattle.byte_view.specs.Elements.{Elements}
 use Rattle.dev_types.specs.Blocks.{FitsBlock}
 use Rattle.handle_table.specs.HandleMaps.{HandleMap, value_at, with_value as with_slot}
 use Rattle.param_stage.specs.Params.{named}
-use Rattle.ref_counts.specs.CountMaps.{CountMap, counts_at, named_at}
+use Rattle.ref_counts.specs.CountMaps.{CountMap, named_at}
 use Rattle.array_objects.specs.Stores.{Arrays, ChangesAt as ArraysChange, Fits, IsOut, array_at, block_at, elements_of, unmapped}
 use Rattle.array_objects.specs.declared.arrays.Array.{Array}
 use Rattle.array_objects.specs.declared.arrays.Block.{Block}
-use Rattle.seq_model.proofs.Keys.{at_within, key_here, key_is_other}
+use Rattle.seq_model.proofs.Keys.{key_here, key_is_other}
 use Rattle.seq_model.specs.Life.{loan_count, names_of, objects_of_elements}
 use Rattle.dev_types.specs.Counting.{times}
 use Rattle.seq_model.specs.Refusals.{is_array_loan_out, is_array_out}
@@ -28,7 +28,7 @@ use Rattle.object_store.specs.Parts.{Part, array_state, at, block_of, holds_at, 
 use Rattle.object_store.proofs.ArrayBirths.{not_named}
 use Rattle.object_store.proofs.Births.{objects_beyond}
 use Rattle.object_store.proofs.Changes.{parts_changed, stored_changed}
-use Rattle.object_store.proofs.Keyed.{at_keyed, rises}
+use Rattle.object_store.proofs.Keyed.{at_keyed}
 use Rattle.object_store.proofs.MoveFacts.{moves_both, never, once}
 use Rattle.object_store.proofs.NamedFacts.{block_names, few_named}
 use Rattle.object_store.proofs.PartFacts.{looked}

@@ -7,6 +7,8 @@
 
 pub mod account;
 pub mod contents;
+pub mod dead;
+pub mod loans;
 pub mod reslotting;
 pub mod scenes;
 pub mod slots;

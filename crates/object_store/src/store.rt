@@ -1,5 +1,5 @@
 //! The store.
-ghost use Rattle.std.specs.List.{filter};
+ghost use Rattle.std.specs.List.{filter, filter_map};
 ghost use Rattle.std.specs.Prelude.{◌≡◌, ◌==◌, ◌∷◌, ◌++◌, ℕ, ◌+◌, ◌-◌, ◌^◌, ◌<◌, ◌≤◌, [], IsTrue, IsOk, IsSome, IfErr, IfNone, IfOk, IfSome, OnOk, OnErr, Some, None, false, length, not, true, option_copied};
 ghost use Rattle.std.specs.BTreeMap.{is_at};
 ghost use Rattle.std.specs.Map.{set_value};
@@ -15,6 +15,8 @@ ghost use Rattle.scene_read.specs.Reading.{lent as lent_block};
 
 use crate::account::{account, public_of, unname_object, unname_times};
 use crate::contents::{bytes_at, elements_len, name_content, taken_back, unname_content};
+use crate::dead::Dead;
+use crate::loans::{is_any_out, loan_with};
 use crate::reslotting::{
     end_loan_at, hold_at, lend_at, map_channel_at, show_at, unhold_at, unmap_channel_at,
 };
@@ -55,10 +57,13 @@ impl Store {
     ghost use Rattle.object_store.specs.Kept.{IsSettled, IsUnmapRefusal, IsUnheld, number_at, without};
     ghost use Rattle.array_objects.specs.Stores.{Fits};
     ghost use Rattle.dev_types.specs.Counting.{times};
-    ghost use Rattle.seq_model.specs.Refusals.{is_array_loan_out};
+    ghost use Rattle.seq_model.specs.Refusals.{is_array_loan_out, is_parameter_loan_out};
+    ghost use Rattle.seq_model.specs.State.{parameter_loan};
     ghost use Rattle.object_store.specs.Parts.{array_of, at, block_of, memory_in, memory_of, named_in_block, named_with};
     ghost use Rattle.object_store.specs.Gathers.{IsLeft, buried};
     ghost use Rattle.seq_model.specs.Soundness.{IsRanked};
+    ghost use Rattle.seq_model.specs.Told.{end_of_object, gone};
+    ghost use Rattle.object_store.specs.Ends.{ended, notice_of};
 
     /// A store without objects, which takes no memory.
     pub fn new(alloc: Global) -> Store
@@ -134,6 +139,24 @@ impl Store {
             self.now.state h) }
     {
         Some(self.slots.get(h)?.loans())
+    }
+
+    /// The array that is written under a number for a parameter of an object, if there is one.
+    pub fn parameter_loan(&self, h: Handle, number: u64) -> Option<&ParameterLoan>
+        ensures { option_copied result ≡ option_and_then (λ o. parameter_loan number
+            o.parameter_loans) (object_at self.now.state h) }
+    {
+        loan_with(self.slots.get(h)?.loans(), number)
+    }
+
+    /// Whether an array of so many bytes is written under a number for the parameter of an object.
+    pub fn is_parameter_loan_out(&self, h: Handle, name: &Name, number: u64, len: usize) -> bool
+        ensures { result ≡ is_parameter_loan_out self.now.state h name.now number len }
+    {
+        match self.slots.get(h) {
+            Some(slot) => is_any_out(slot.loans(), name, number, len),
+            None => false,
+        }
     }
 
     /// The committed value of a parameter of an object, if there is one.
@@ -229,15 +252,25 @@ impl Store {
         Some((h, block))
     }
 
-    /// Takes away all objects that do not live: until each that is left is held. This takes no
+    /// Takes away all objects that do not live: until each that is left is held. The arrays among
+    /// them, for which there is room among the dead, stand there by rising handle. This takes no
     /// memory.
-    pub fn gather(&mut self)
-        requires { IsRanked self.old.state.objects }
+    pub fn gather(&mut self, dead: &mut Dead)
+        requires ranked { IsRanked self.old.state.objects }
+        requires none { dead.old.list ≡ [] }
+        requires room { length (ended self.old.state.objects) ≤ dead.old.room }
         ensures state { self.new.state ≡ buried self.old }
         ensures left { IsLeft self.old self.new }
+        ensures dead { dead.new.list ≡ ended (gone self.old.state self.new.state) }
+        ensures notices { filter_map notice_of dead.new.list ≡ filter_map end_of_object (gone
+            self.old.state self.new.state) }
+        ensures room { dead.new.room ≡ dead.old.room }
     {
         let _slots = &self.slots;
-        while let Some(_dead) = self.die() {}
+        while let Some(death) = self.die() {
+            dead.add(death);
+        }
+        dead.order();
     }
 
     /// One more public reference to an object, which has one.

@@ -1,5 +1,5 @@
-use Rattle.std.proofs.Common.{◌≡◌, ◌∙◌, sym}
-use Rattle.std.specs.Option.{option_and_then, option_map}
+use Rattle.std.proofs.Common.{◌∙◌, sym}
+use Rattle.std.specs.Option.{option_map}
 use Rattle.seq_model.specs.State.{ArrayState}
 use Rattle.array_objects.specs.Stores.{array_at}
 use Rattle.object_store.proofs.Readers.{bytes_read, read_array, read_gone}

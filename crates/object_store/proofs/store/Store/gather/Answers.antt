@@ -1,41 +1,58 @@
 use Rattle.std.proofs.Common.{◌<◌, ◌∙◌, length, ap, sym, subst}
-use Rattle.object_store.specs.Gathers.{IsLeft}
-use Rattle.object_store.specs.Kept.{IsSettled, Stored}
-use Rattle.object_store.proofs.Lefts.{left_ends, left_itself, left_next, one_less, store_rises}
+use Rattle.std.specs.List.{filter_map}
+use Rattle.object_store.specs.Ends.{AreDying, Ends, ended, notice_of}
+use Rattle.object_store.specs.Kept.{IsSettled, Stored, without}
+use Rattle.object_store.specs.Parts.{memory_of}
+use Rattle.seq_model.specs.Told.{end_of_object, gone}
+use Rattle.object_store.proofs.DeadSteps.{told_of_ended}
+use Rattle.object_store.proofs.Dying.{dying_ends, dying_fits, dying_next, dying_starts}
+use Rattle.object_store.proofs.Lefts.{left_ends, one_less, store_rises}
 use Rattle.object_store.proofs.store.Store.gather.Goals as goal
 
-pub loop-dead-init : goal.loop-dead-init
-loop-dead-init c =
-    left_itself c.args.self.now c.self.inside.slots.next
+pub loop-death-init : goal.loop-death-init
+loop-death-init c =
+    dying_starts c.args.self.now c.self.inside.slots.next
+    (store_rises c.args.self.now c.self.inside.slots c.self.inside.arrays c.self.inside.counts c.self.inside.stopped c.self.view_is c.self.invariant.rising) c.args.dead.now c.requires.none
+    c.requires.room
+
+pub loop-death-preserved : goal.loop-death-preserved
+loop-death-preserved c =
+    subst (λ (s : Stored). AreDying c.args.self.now s c.args.dead.now c.add.new.self) (sym c.in-Some.ensures.gone)
+    (subst (λ (d : Ends). AreDying c.args.self.now (without c.in-Some.death.0 c.loop-death.self) c.args.dead.now d) (sym c.add.ensures)
+    (dying_next c.args.self.now c.self.inside.slots.next
     (store_rises c.args.self.now c.self.inside.slots c.self.inside.arrays c.self.inside.counts c.self.inside.stopped c.self.view_is c.self.invariant.rising)
+    c.loop-death.self c.args.dead.now c.loop-death.dead c.loop-death.invariant c.in-Some.death.0 (memory_of c.in-Some.death.1) c.in-Some.ensures.unheld c.in-Some.ensures.block))
 
-pub loop-dead-preserved-in-Some : goal.loop-dead-preserved-in-Some
-loop-dead-preserved-in-Some c =
-    subst (IsLeft c.args.self.now) (sym c.in-Some.ensures.gone)
-    (left_next c.args.self.now c.loop-dead.self c.self.inside.slots.next
+pub loop-death-smaller : goal.loop-death-smaller
+loop-death-smaller c =
+    subst (λ (s : Stored). length s.state.objects < length c.loop-death.self.state.objects) (sym c.in-Some.ensures.gone)
+    (one_less c.in-Some.death.0 c.loop-death.self.state.objects c.in-Some.ensures.unheld.there)
+
+pub add-requires : goal.add-requires
+add-requires c =
+    dying_fits c.args.self.now c.self.inside.slots.next
     (store_rises c.args.self.now c.self.inside.slots c.self.inside.arrays c.self.inside.counts c.self.inside.stopped c.self.view_is c.self.invariant.rising)
-    c.loop-dead.invariant c.in-Some._dead.0 c.in-Some.ensures.unheld)
-
-pub loop-dead-smaller-in-Some : goal.loop-dead-smaller-in-Some
-loop-dead-smaller-in-Some c =
-    subst (λ (s : Stored). length s.state.objects < length c.loop-dead.self.state.objects) (sym c.in-Some.ensures.gone)
-    (one_less c.in-Some._dead.0 c.loop-dead.self.state.objects c.in-Some.ensures.unheld.there)
-
-pub loop-dead-preserved : goal.loop-dead-preserved
-loop-dead-preserved c =
-    subst (IsLeft c.args.self.now) (sym c.in-Some.ensures.gone)
-    (left_next c.args.self.now c.loop-dead.self c.self.inside.slots.next
-    (store_rises c.args.self.now c.self.inside.slots c.self.inside.arrays c.self.inside.counts c.self.inside.stopped c.self.view_is c.self.invariant.rising)
-    c.loop-dead.invariant c.in-Some._dead.0 c.in-Some.ensures.unheld)
-
-pub loop-dead-smaller : goal.loop-dead-smaller
-loop-dead-smaller c =
-    subst (λ (s : Stored). length s.state.objects < length c.loop-dead.self.state.objects) (sym c.in-Some.ensures.gone)
-    (one_less c.in-Some._dead.0 c.loop-dead.self.state.objects c.in-Some.ensures.unheld.there)
+    c.loop-death.self c.args.dead.now c.loop-death.dead c.loop-death.invariant c.in-Some.death.0 (memory_of c.in-Some.death.1) c.in-Some.ensures.unheld c.in-Some.ensures.block
 
 pub returns-clause-state : goal.returns-clause-state
 returns-clause-state c =
     ap (λ (s : Stored). s.state) c.in_default.ensures.none
-    ∙ left_ends c.args.self.now c.loop-dead.self c.self.inside.slots.next
+    ∙ left_ends c.args.self.now c.loop-death.self c.self.inside.slots.next
     (store_rises c.args.self.now c.self.inside.slots c.self.inside.arrays c.self.inside.counts c.self.inside.stopped c.self.view_is c.self.invariant.rising)
-    c.loop-dead.invariant (subst IsSettled c.in_default.ensures.none c.in_default.ensures.settled) c.requires
+    c.loop-death.invariant.left (subst IsSettled c.in_default.ensures.none c.in_default.ensures.settled) c.requires.ranked
+
+pub returns-clause-dead : goal.returns-clause-dead
+returns-clause-dead c =
+    dying_ends c.args.self.now c.self.inside.slots.next
+    (store_rises c.args.self.now c.self.inside.slots c.self.inside.arrays c.self.inside.counts c.self.inside.stopped c.self.view_is c.self.invariant.rising)
+    c.loop-death.self c.args.dead.now c.loop-death.dead c.loop-death.invariant c.order.new.self.list c.order.ensures.same c.order.ensures.rising
+    ∙ ap (λ (s : Stored). ended (gone c.args.self.now.state s.state)) (sym c.in_default.ensures.none)
+
+pub returns-clause-notices : goal.returns-clause-notices
+returns-clause-notices c =
+    ap (filter_map notice_of)
+    (dying_ends c.args.self.now c.self.inside.slots.next
+    (store_rises c.args.self.now c.self.inside.slots c.self.inside.arrays c.self.inside.counts c.self.inside.stopped c.self.view_is c.self.invariant.rising)
+    c.loop-death.self c.args.dead.now c.loop-death.dead c.loop-death.invariant c.order.new.self.list c.order.ensures.same c.order.ensures.rising)
+    ∙ told_of_ended (gone c.args.self.now.state c.loop-death.self.state)
+    ∙ ap (λ (s : Stored). filter_map end_of_object (gone c.args.self.now.state s.state)) (sym c.in_default.ensures.none)

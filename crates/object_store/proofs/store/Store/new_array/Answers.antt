@@ -1,7 +1,6 @@
-use Rattle.std.proofs.Common.{ℕ, ◌+◌, ◌≡◌, ◌<◌, ◌≤◌, ◌∙◌, ◌∷◌, ◌++◌, [], None, Some, false, ap, subst, arith, sym}
+use Rattle.std.proofs.Common.{◌≡◌, ◌<◌, ◌≤◌, ◌∙◌, ◌∷◌, ◌++◌, [], None, Some, false, ap, subst, arith, sym}
 use Rattle.std.specs.Option.{IsSome, option_map}
 use Rattle.kind_tables.specs.declared.kinds.Kind.TheVariants.{Array as ArrayKind}
-use Rattle.handle_table.specs.HandleMaps.{HandleMap}
 use Rattle.ref_counts.specs.CountMaps.{counts_at}
 use Rattle.array_objects.specs.Stores.{ChangesAt as ArraysChange, block_at}
 use Rattle.array_objects.specs.declared.arrays.Array.{Array}

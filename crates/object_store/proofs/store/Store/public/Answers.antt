@@ -1,6 +1,4 @@
 use Rattle.std.proofs.Common.{◌∙◌, Some, ap, sym}
-use Rattle.std.specs.Option.{is_some}
-use Rattle.object_store.proofs.Counted.{none_by}
 use Rattle.object_store.proofs.Readers.{no_public, object_is_there, public_read}
 use Rattle.object_store.proofs.store.Store.public.Goals as goal
 

@@ -1,4 +1,4 @@
-use Rattle.std.proofs.Common.{ℕ, ◌+◌, ◌-◌, ◌≡◌, ◌≤◌, ◌∙◌, List, [], ◌∷◌, ◌++◌, false, ap, refl, subst, arith, sym}
+use Rattle.std.proofs.Common.{ℕ, ◌-◌, ◌≡◌, ◌∙◌, List, [], ◌∷◌, ◌++◌, false, ap, refl, subst, arith, sym}
 use Rattle.std.specs.BTreeMap.{is_at}
 use Rattle.std.specs.Map.{set_value}
 use Rattle.std.specs.Option.{IsSome}
@@ -6,7 +6,7 @@ use Rattle.std.specs.Ordering.{nat_cmp}
 use Rattle.dev_types.specs.declared.data_types.DataType.TheVariants as ty
 use Rattle.dev_types.specs.declared.values.Value.TheVariants as value
 use Rattle.kind_tables.specs.SceneObjects.{with_value}
-use Rattle.seq_model.specs.State.{State, changed_at, object_at, with_object}
+use Rattle.seq_model.specs.State.{changed_at, object_at, with_object}
 use Rattle.seq_model.specs.Steps.{end_parameter_loan, set_staged}
 use Rattle.object_store.specs.Kept.{Stored, number_at}
 use Rattle.object_store.specs.Parts.{array_of}

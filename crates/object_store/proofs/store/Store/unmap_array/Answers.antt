@@ -1,9 +1,9 @@
-use Rattle.std.proofs.Common.{ℕ, ◌+◌, ◌-◌, ◌≡◌, ◌<◌, ◌≤◌, ◌∙◌, ◌∷◌, inr, true, false, [], Some, ap, length, refl, subst, arith, sym}
+use Rattle.std.proofs.Common.{ℕ, ◌-◌, ◌≡◌, ◌<◌, ◌≤◌, ◌∙◌, inr, true, false, [], Some, ap, length, refl, subst, arith, sym}
 use Rattle.std.specs.Option.{IfSome, IsSome, is_some, option_map}
 use Rattle.dev_types.specs.Blocks.{FitsBlock}
 use Rattle.handle_table.specs.HandleMaps.{value_at}
 use Rattle.object_store.proofs.Counted.{none_by}
-use Rattle.ref_counts.specs.CountMaps.{ChangesAt, counts_at, named_at, public_at}
+use Rattle.ref_counts.specs.CountMaps.{ChangesAt, named_at, public_at}
 use Rattle.array_objects.specs.Stores.{Fits, IsOut, array_at, block_at}
 use Rattle.dev_types.specs.Counting.{times}
 use Rattle.seq_model.specs.State.{changed_at, object_at}

@@ -1,0 +1,7 @@
+use Rattle.std.proofs.Common.{rules}
+use Rattle.std.proofs.lemmas.List.Sorted.{IsNonDecreasingBy-from_sort_by_key}
+use Rattle.object_store.specs.Ends.{Ended}
+use Rattle.object_store.proofs.dead.order_by_handle.Goals as goal
+
+pub returns-clause-rising : goal.returns-clause-rising
+returns-clause-rising c = IsNonDecreasingBy-from_sort_by_key (λ (e : Ended). e.0) _ c.sort_unstable_by_key.ensures.sorted (λ a r q k. search rules)
