@@ -1,0 +1,5 @@
+pub mod LastRenders
+pub mod Marks
+pub mod Reaches
+pub mod Shows
+pub mod Untouched
