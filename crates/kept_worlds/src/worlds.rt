@@ -1,14 +1,15 @@
 //! Kept worlds.
 ghost use Rattle.std.specs.Prelude.{◌≡◌, ◌==◌, ◌++◌, ◌∷◌, [], ℕ, Bool, OnErr, OnOk, None, Some, true, if◌then◌else◌, map, option_copied};
-ghost use Rattle.std.specs.Option.{is_none, option_map};
+ghost use Rattle.std.specs.Option.{MatchOption, is_none, option_map};
 ghost use Rattle.kind_tables.specs.Walks.{visited, walk};
 ghost use Rattle.past_laws.specs.Worlds.{Touches, last_use, render_of, wants_build, world_of};
 ghost use Rattle.seq_model.specs.Histories.{History};
 ghost use Rattle.seq_model.specs.State.{scene_objects};
 ghost use Rattle.seq_model.specs.Steps.{after};
 ghost use Rattle.seq_model.specs.declared.calls.Entry.{Entry};
-ghost use Rattle.kept_worlds.specs.KeptMaps.{kept_at, reach_at, unless_reached};
-ghost use Rattle.kept_worlds.specs.LastKept.{AreKept, all_but};
+ghost use Rattle.world_laws.specs.Alike.{Shown, shown_of};
+ghost use Rattle.kept_worlds.specs.KeptMaps.{kept_at, reach_at, shown_at, unless_reached};
+ghost use Rattle.kept_worlds.specs.LastKept.{AreKept, AreShown, all_but};
 
 use crate::builds::{Kept, drop_under, drop_world};
 use crate::users::{Users, add_users};
@@ -59,6 +60,9 @@ impl<P: Drop> KeptWorlds<P> {
             → AreKept there history (reach_at self.now)
             → there world ≡ true
             → wants_build (last_use history world) ≡ is_none result }
+        ensures shown { (shows : P → Shown) (history : History)
+            → AreShown history (shown_at shows self.now)
+            → MatchOption (option_copied result) (Unit {0}) (λ value. shows value ≡ shown_of (scene_objects (after history).state) world) }
     {
         let kept = &self.kept;
         Some(kept.get(&world)?.value())
@@ -82,6 +86,10 @@ impl<P: Drop> KeptWorlds<P> {
             → reach.items ≡ visited (walk (scene_objects (after history).state) world)
             → AreKept there history (reach_at self.old)
             → AreKept there (history ++ render_of actor f ∷ []) (reach_at self.new)) }
+        ensures shown { OnOk result ((shows : P → Shown) (history : History)
+            → shows value ≡ shown_of (scene_objects (after history).state) world
+            → AreShown history (shown_at shows self.old)
+            → AreShown history (shown_at shows self.new)) }
     {
         add_users(&mut self.users, alloc, reach.as_slice(), world)?;
         match self.kept.insert(world, Kept { reach, value }) {
@@ -97,6 +105,9 @@ impl<P: Drop> KeptWorlds<P> {
             → Touches h e
             → AreKept there history (reach_at self.old)
             → AreKept there (history ++ e ∷ []) (reach_at self.new) }
+        ensures shown { (shows : P → Shown) (history : History)
+            → AreShown history (shown_at shows self.old)
+            → AreShown history (shown_at shows self.new) }
     {
         let list = self.users.remove(&h);
         drop_under(&mut self.kept, &mut self.users, list, h);
@@ -108,6 +119,9 @@ impl<P: Drop> KeptWorlds<P> {
         ensures known { (history : History) (there : ℕ → Bool)
             → AreKept there history (reach_at self.old)
             → AreKept (all_but world there) history (reach_at self.new) }
+        ensures shown { (shows : P → Shown) (history : History)
+            → AreShown history (shown_at shows self.old)
+            → AreShown history (shown_at shows self.new) }
     {
         drop_world(&mut self.kept, &mut self.users, world);
     }

@@ -83,7 +83,7 @@ frame_of_world history p w = by (frame_at history p) refl
     by (Some f) some is = (f, (some, is))
 
 -- a render touches nothing
-render_touches_nothing : (reach : List ℕ) (e : Entry) (f : ℕ) → rendered e ≡ Some f → is_touching reach e ≡ false
+pub render_touches_nothing : (reach : List ℕ) (e : Entry) (f : ℕ) → rendered e ≡ Some f → is_touching reach e ≡ false
 render_touches_nothing reach (Called actor (Commit h) reply.Done) f is = absurd cc
 render_touches_nothing reach (Called actor (UnmapArray h number bytes) reply.Done) f is = absurd cc
 render_touches_nothing reach e f is = refl
@@ -106,9 +106,6 @@ untouched_since history w i f renders none =
     All-from_get_or (λ e. is_touching (reach_of_world history (suc i) w) e ≡ false) (drop i history) Closed
     (λ j less. ap (is_touching (reach_of_world history (suc i) w)) (get_or-drop i history j Closed) ∙ by j (omega (arith, less, length-drop i history)))
   where
-    reach : List ℕ
-    reach = reach_of_world history (suc i) w
-
     by : (j : ℕ) → i + j < length history → is_touching (reach_of_world history (suc i) w) (get_or history (i + j) Closed) ≡ false
     by zero less =
         let here : i + 0 ≡ i = omega arith in
