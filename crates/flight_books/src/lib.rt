@@ -6,6 +6,7 @@
 
 mod books;
 mod kept;
+mod names;
 mod work;
 
 pub use books::FlightBooks;
