@@ -5,9 +5,13 @@
 #![tactic(auto)]
 
 mod books;
+mod calls;
 mod kept;
+mod lookups;
+mod names;
 mod work;
 
 pub use books::FlightBooks;
 pub use kept::{Cargo, Over};
+pub use lookups::fresh;
 pub use work::{Handed, Handout};

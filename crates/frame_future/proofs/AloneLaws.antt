@@ -18,7 +18,7 @@ pub fresh_reads_nothing : (ticket frame : ℕ) (channels : List Bool) (claims : 
     → IsRead (begun ticket frame channels claims s) read → read ≡ 0
 fresh_reads_nothing ticket frame channels claims s read new is = is.alone (new.first, new.alone) ∙ ap length new.unclaimed
 
-idle_claimed : (v : View) → v.opened ≡ None → claimed v ≡ length v.given
+pub idle_claimed : (v : View) → v.opened ≡ None → claimed v ≡ length v.given
 idle_claimed v idle = let none : 0 + length v.given ≡ length v.given = omega arith in ap (λ (o : Option ℕ). claimed (record v { opened = o })) idle ∙ none
 
 pub stopped_ends : (f g : Flying) (read : ℕ) → IsSound f → IsAlone f.view → IsStop f g → IsRead g read → is_end g read ≡ true

@@ -14,7 +14,7 @@ use Rattle.tile_claims.specs.Seats.{frame_of, view, IsSeatOf}
 use Rattle.tile_claims.specs.Views.{beside, claimed, IsAlone}
 use Rattle.frame_future.specs.Channels.{is_asked, loan_of}
 use Rattle.dev_types.specs.Channels.{number_of_channel}
-use Rattle.frame_future.specs.Flights.{Flying, key_at, is_stopped, awaited, asked_at, handed_at, stopped_at}
+use Rattle.frame_future.specs.Flights.{Flying, key_at, is_stopped, awaited, asked_at, handed_at, stopped_at, IsSound}
 use Rattle.frame_future.specs.Mapped.{Mapped}
 use Rattle.frame_future.specs.Pixels.{picture_of}
 use Rattle.frame_future.specs.declared.phase.Phase.{Phase}
@@ -129,6 +129,7 @@ pub record IsStop (f g : Flying) : Type 0 where
   pub seen : min f.view.claims.last (tiles_of (key_at f)) ≤ claims
   pub gives : f.view.gives.last ≤ claims
   pub alone : IsAlone f.view → claims ≡ claimed f.view
+  pub sound : IsSound f
 
 -- a look at the count of claimed tiles of a flight read so many, at most all; where only its first seat worked on it, as many as that seat claimed
 pub record IsCount (f g : Flying) (result : ℕ) : Type 0 where
