@@ -32,7 +32,7 @@ abbrev ended_with : ℕ → Option (List ℕ × Origin) → Option Ended
 ended_with h memory = option_map (λ m. (h, m)) memory
 
 module _ (old : Stored) (high : ℕ) (up : RisesWithin 1 high (keys_of old.state.objects)) where
-  none_gone : gone old.state old.state ≡ []
+  pub none_gone : gone old.state old.state ≡ []
   none_gone =
       filter_none (λ (e : ℕ × Object). not (has e.0 (keys_of old.state.objects))) old.state.objects
       (all_from_at (λ (e : ℕ × Object). not (has e.0 (keys_of old.state.objects)) ≡ false) 1 high old.state.objects up
@@ -48,10 +48,10 @@ module _ (old : Stored) (high : ℕ) (up : RisesWithin 1 high (keys_of old.state
   }
 
   module _ (now : Stored) (before dead : Ends) (dying : AreDying old now before dead) where
-    now_up : RisesWithin 1 high (keys_of now.state.objects)
+    pub now_up : RisesWithin 1 high (keys_of now.state.objects)
     now_up = subst (λ es. RisesWithin 1 high (keys_of es)) (sym dying.left.kept) (rises_filtered (λ (e : ℕ × Object). is_some (at e.0 now.state.objects)) 1 high old.state.objects up)
 
-    was_there : (h : ℕ) (o : Object) → at h now.state.objects ≡ Some o → at h old.state.objects ≡ Some o
+    pub was_there : (h : ℕ) (o : Object) → at h now.state.objects ≡ Some o → at h old.state.objects ≡ Some o
     was_there h o there = by (at h old.state.objects) refl
       where
         kept : at h now.state.objects ≡ option_filter (λ o. is_some (at h now.state.objects)) (at h old.state.objects)
@@ -77,7 +77,7 @@ module _ (old : Stored) (high : ℕ) (up : RisesWithin 1 high (keys_of old.state
       room = dying.room;
     }
 
-    object_there : (x : Option Object) → IsSome x → (o : Object) × (x ≡ Some o)
+    pub object_there : (x : Option Object) → IsSome x → (o : Object) × (x ≡ Some o)
     object_there (Some o) some = (o, refl)
     object_there None some = absurd cc
 

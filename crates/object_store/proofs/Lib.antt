@@ -2,6 +2,7 @@ pub mod ArrayBirths
 pub mod Births
 pub mod Changes
 pub mod Counted
+pub mod CountFacts
 pub mod DeadOrder
 pub mod DeadSteps
 pub mod Deaths
@@ -10,6 +11,7 @@ pub mod Gathered
 pub mod HeldUp
 pub mod Holdings
 pub mod Keyed
+pub mod Leaving
 pub mod Lefts
 pub mod MoveFacts
 pub mod NamedCount

@@ -2,6 +2,7 @@
 use Rattle.std.specs.Prelude.{◌≡◌, ℕ, ◌+◌, ◌≤◌, List, Option, length}
 use Rattle.std.specs.List.{filter_map}
 use Rattle.std.specs.List.Sorted.{IsPermutation}
+use Rattle.std.specs.Map.{keys_of}
 use Rattle.std.specs.Option.{option_map}
 use Rattle.array_objects.specs.declared.arrays.Block.{Block}
 use Rattle.dev_types.specs.declared.handles.Origin.{Origin}
@@ -43,3 +44,8 @@ pub record AreDying (old now : Stored) (before dead : Ends) : Type 0 where
   pub moved : IsPermutation (ended (gone old.state now.state)) dead.list
   pub fits : length (ended now.state.objects) + length dead.list ≤ dead.room
   pub room : dead.room ≡ before.room
+
+-- the handle of each object of a store that died is among some, and there is room for those of all
+pub record AreLeaving (old now : Stored) (handles : List ℕ) (room : ℕ) : Type 0 where
+  pub moved : IsPermutation (keys_of (gone old.state now.state)) handles
+  pub fits : length now.state.objects + length handles ≤ room

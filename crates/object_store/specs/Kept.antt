@@ -2,7 +2,7 @@
 use Rattle.std.specs.Prelude.{◌≡◌, ℕ, ◌+◌, ◌<◌, ◌≤◌, ◌^◌, ◌&&◌, ◌⊎◌, nat_lt, Bool, false, true, List, Some, None, IfSome, IsSome}
 use Rattle.std.specs.BTreeMap.{is_at}
 use Rattle.std.specs.List.{sum_by}
-use Rattle.std.specs.Map.{remove_entry}
+use Rattle.std.specs.Map.{keys_of, remove_entry}
 use Rattle.std.specs.Ordering.{nat_cmp}
 use Rattle.std.specs.Option.{is_some, option_map_or, unwrap_or}
 use Rattle.dev_types.specs.declared.refusals.Refused.{Refused}
@@ -94,6 +94,15 @@ pub record IsUnheld (s : Stored) (h : ℕ) : Type 0 where
 pub record IsSettled (s : Stored) : Type 0 where
   pub closed : (h : ℕ) (o : Object) → at h s.state.objects ≡ Some o → (k : ℕ) → has k (names_of o) ≡ true → IsSome (at k s.state.objects)
   pub held : (h : ℕ) (o : Object) → at h s.state.objects ≡ Some o → 0 < number_at s.public h + (names_in s.state.objects h + loan_count o + number_at s.holds h)
+
+-- what is known of a store at any time: the handles of its objects rise, each object has a count of public references and of the flights
+-- that hold it, which are few, and what an object names is there
+pub record CountsItsObjects (s : Stored) : Type 0 where
+  pub rising : RiseWithin 1 s.state.next s.state.objects
+  pub public : keys_of s.public ≡ keys_of s.state.objects
+  pub holds : keys_of s.holds ≡ keys_of s.state.objects
+  pub closed : (h : ℕ) → 0 < names_in s.state.objects h → IsSome (at h s.state.objects)
+  pub few : (h : ℕ) → number_at s.holds h ≤ 2 ^ 40
 
 -- why an unmap was refused: there was no memory, or the loan was not out
 abbrev pub IsUnmapRefusal : Bool → Refused → Type 0

@@ -1,7 +1,7 @@
 //! The arrays that die with one entry, and the client that is told of them.
 ghost use Rattle.std.specs.Prelude.{◌≡◌, ◌+◌, ◌<◌, ◌≤◌, ◌∷◌, ◌++◌, [], IfNone, OnOk, length, reverse, vec_capacity};
 ghost use Rattle.std.specs.List.{cons_option, filter_map};
-ghost use Rattle.std.specs.List.Sorted.{IsNonDecreasingBy, IsPermutation};
+ghost use Rattle.std.specs.List.Sorted.{IsNonDecreasing, IsNonDecreasingBy, IsPermutation};
 ghost use Rattle.std.specs.Option.{option_to_list};
 ghost use Rattle.object_store.specs.Ends.{death_of, notice_of};
 
@@ -136,6 +136,15 @@ fn order_by_handle(ended: &mut Vec<Ended>)
     ensures room { vec_capacity ended.new ≡ vec_capacity ended.old }
 {
     ended.sort_unstable_by_key(|e| e.source);
+}
+
+/// Brings the handles of the dead into their order.
+pub fn order_handles(handles: &mut Vec<Handle>)
+    ensures same { IsPermutation handles.old.items handles.new.items }
+    ensures rising { IsNonDecreasing handles.new.items }
+    ensures room { vec_capacity handles.new ≡ vec_capacity handles.old }
+{
+    handles.sort_unstable();
 }
 
 /// Brings the arrays into the opposite order.

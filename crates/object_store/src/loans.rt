@@ -1,11 +1,32 @@
 //! The arrays that an application writes for parameters (ANARI 1.0 Specification, parameter arrays).
-ghost use Rattle.std.specs.Prelude.{◌≡◌, option_copied};
+ghost use Rattle.std.specs.Prelude.{◌≡◌, ◌*◌, ◌≤◌, IsTrue, option_copied};
 ghost use Rattle.std.specs.List.{list_any};
-ghost use Rattle.seq_model.specs.Refusals.{is_parameter_out};
+ghost use Rattle.dev_types.specs.DataTypes.{byte_size, is_element_type};
+ghost use Rattle.seq_model.specs.Refusals.{is_parameter_out, most_bytes};
 ghost use Rattle.seq_model.specs.State.{parameter_loan};
 
-use crate::slots::ParameterLoan;
-use dev_types::{Name, size_of};
+use dev_types::{DataType, Name, size_of};
+use std::marker::Model;
+
+/// A new array that an application writes for a parameter: `count` elements without gaps, at most
+/// 2^28 bytes.
+#[derive(Drop)]
+pub struct ParameterLoan {
+    pub number: u64,
+    pub name: Name,
+    pub elem: DataType,
+    pub count: u64,
+    ghost element: { IsTrue (is_element_type elem) },
+    ghost bounded: { count * byte_size elem ≤ most_bytes },
+}
+
+impl Model for ParameterLoan {
+    ghost use Rattle.seq_model.specs.State.{ParameterLoan as Loan};
+
+    ghost Value = { Loan };
+
+    ghost view = { λ l. record { number = l.number; name = l.name; elem = l.elem; count = l.count } };
+}
 
 /// Whether the loan has this number, is for this parameter, and has so many bytes.
 fn is_out(loan: &ParameterLoan, name: &Name, number: u64, len: usize) -> bool

@@ -5,7 +5,8 @@ ghost use Rattle.object_store.specs.Moves.{Reslots};
 ghost use Rattle.object_store.specs.Parts.{end_in, hold_in, holds_at, lend_in, map_in, show_in, unhold_in, unmap_in};
 ghost use Rattle.object_store.specs.Phases.{phase_of};
 
-use crate::slots::{ParameterLoan, Shows, Slot};
+use crate::loans::ParameterLoan;
+use crate::slots::{Shows, Slot};
 use dev_types::{Channel, Handle, NoMemory};
 use handle_table::Table;
 

@@ -5,7 +5,8 @@ ghost use Rattle.std.specs.Option.{option_to_list};
 ghost use Rattle.kind_tables.specs.SceneObjects.{object_in, objects_of, value_named, with_value};
 ghost use Rattle.param_stage.specs.Params.{Accounts};
 
-use dev_types::{Channel, DataType, Name, NoMemory, Value};
+use crate::loans::ParameterLoan;
+use dev_types::{Channel, Name, NoMemory, Value};
 use kind_tables::Kind;
 use param_stage::{Named, Params};
 use std::alloc::{AllocError, Global};
@@ -18,23 +19,6 @@ pub enum Shows {
     /// A picture that is being rendered.
     Flight(u64),
     Picture(u64),
-}
-
-/// A new array that an application writes for a parameter.
-#[derive(Drop)]
-pub struct ParameterLoan {
-    pub number: u64,
-    pub name: Name,
-    pub elem: DataType,
-    pub count: u64,
-}
-
-impl Model for ParameterLoan {
-    ghost use Rattle.seq_model.specs.State.{ParameterLoan as Loan};
-
-    ghost Value = { Loan };
-
-    ghost view = { λ l. record { number = l.number; name = l.name; elem = l.elem; count = l.count } };
 }
 
 /// What is kept of an object beside its array and its counts: `holds` flights keep it alive.

@@ -1,8 +1,8 @@
 //! The store.
 ghost use Rattle.std.specs.List.{filter, filter_map};
-ghost use Rattle.std.specs.Prelude.{◌≡◌, ◌==◌, ◌∷◌, ◌++◌, ℕ, ◌+◌, ◌-◌, ◌^◌, ◌<◌, ◌≤◌, [], IsTrue, IsOk, IsSome, IfErr, IfNone, IfOk, IfSome, OnOk, OnErr, Some, None, false, length, not, true, option_copied};
+ghost use Rattle.std.specs.Prelude.{◌≡◌, ◌==◌, ◌∷◌, ◌++◌, ℕ, ◌+◌, ◌-◌, ◌^◌, ◌<◌, ◌≤◌, [], IsTrue, IsOk, IsSome, IfErr, IfNone, IfOk, IfSome, OnOk, OnErr, Some, None, false, length, not, true, option_copied, vec_capacity};
 ghost use Rattle.std.specs.BTreeMap.{is_at};
-ghost use Rattle.std.specs.Map.{set_value};
+ghost use Rattle.std.specs.Map.{keys_of, set_value};
 ghost use Rattle.std.specs.Ordering.{nat_cmp};
 ghost use Rattle.std.specs.Option.{MatchOption, is_some, option_and_then, option_map, option_map_or};
 ghost use Rattle.kind_tables.specs.SceneObjects.{object_in, value_named, with_value, without_value};
@@ -15,12 +15,12 @@ ghost use Rattle.scene_read.specs.Reading.{lent as lent_block};
 
 use crate::account::{account, public_of, unname_object, unname_times};
 use crate::contents::{bytes_at, elements_len, name_content, taken_back, unname_content};
-use crate::dead::Dead;
-use crate::loans::{is_any_out, loan_with};
+use crate::dead::{Dead, order_handles};
+use crate::loans::{ParameterLoan, is_any_out, loan_with};
 use crate::reslotting::{
     end_loan_at, hold_at, lend_at, map_channel_at, show_at, unhold_at, unmap_channel_at,
 };
-use crate::slots::{ParameterLoan, Shows, Slot};
+use crate::slots::{Shows, Slot};
 use crate::staging::{commit_at, is_there, names_at, set_at, unset_all_at, unset_at};
 use crate::stops::Stops;
 use array_objects::{ArrayStore, Block, Lent};
@@ -54,7 +54,7 @@ impl Model for Store {
 }
 
 impl Store {
-    ghost use Rattle.object_store.specs.Kept.{IsSettled, IsUnmapRefusal, IsUnheld, number_at, without};
+    ghost use Rattle.object_store.specs.Kept.{CountsItsObjects, IsSettled, IsUnmapRefusal, IsUnheld, number_at, without};
     ghost use Rattle.array_objects.specs.Stores.{Fits};
     ghost use Rattle.dev_types.specs.Counting.{times};
     ghost use Rattle.seq_model.specs.Refusals.{is_array_loan_out, is_parameter_loan_out};
@@ -253,23 +253,29 @@ impl Store {
     }
 
     /// Takes away all objects that do not live: until each that is left is held. The arrays among
-    /// them, for which there is room among the dead, stand there by rising handle. This takes no
-    /// memory.
-    pub fn gather(&mut self, dead: &mut Dead)
+    /// them, for which there is room among the dead, stand there by rising handle, and `handles`,
+    /// which has room, names all of them by rising handle. This takes no memory.
+    pub fn gather(&mut self, dead: &mut Dead, handles: &mut Vec<Handle>)
         requires ranked { IsRanked self.old.state.objects }
         requires none { dead.old.list ≡ [] }
         requires room { length (ended self.old.state.objects) ≤ dead.old.room }
+        requires no_handles { handles.old.items ≡ [] }
+        requires places { length self.old.state.objects ≤ vec_capacity handles.old }
         ensures state { self.new.state ≡ buried self.old }
         ensures left { IsLeft self.old self.new }
         ensures dead { dead.new.list ≡ ended (gone self.old.state self.new.state) }
         ensures notices { filter_map notice_of dead.new.list ≡ filter_map end_of_object (gone
             self.old.state self.new.state) }
         ensures room { dead.new.room ≡ dead.old.room }
+        ensures handles { handles.new.items ≡ keys_of (gone self.old.state self.new.state) }
+        ensures places { vec_capacity handles.new ≡ vec_capacity handles.old }
     {
         let _slots = &self.slots;
         while let Some(death) = self.die() {
+            handles.push_reserved(death.0);
             dead.add(death);
         }
+        order_handles(handles);
         dead.order();
     }
 
@@ -710,6 +716,24 @@ impl Store {
             return None;
         }
         self.arrays.loan(h)
+    }
+
+    /// Whether a loan of an array under this number is out, of so many bytes.
+    pub fn is_array_loan_out(&self, h: Handle, number: u64, len: usize) -> bool
+        ensures { result ≡ is_array_loan_out self.now.state h number len }
+    {
+        let Some(bytes) = self.bytes(h) else {
+            return false;
+        };
+        self.array_loan(h) == Some(number) && bytes.as_slice().len() == len
+    }
+
+    /// What is known of a store at any time: the handles of its objects rise, each is counted, and
+    /// what an object names is there.
+    pub fn counts_its_objects(&self)
+        ensures { CountsItsObjects self.now }
+    {
+        let _slots = &self.slots;
     }
 
     /// What a frame shows; nothing where there is no such object.
