@@ -1,1 +1,2 @@
+pub mod CarryFacts
 pub mod ParameterLoanFacts
