@@ -16,7 +16,7 @@ use Rattle.seq_model.specs.declared.calls.Call.{Call}
 use Rattle.seq_model.specs.declared.calls.Call.TheVariants as call
 use Rattle.seq_model.specs.declared.calls.Reply.{Reply}
 use Rattle.seq_model.specs.declared.calls.Reply.TheVariants as reply
-use Rattle.object_steps.specs.Carrying.{AreThere, Brings, CanCarry, carried}
+use Rattle.object_steps.specs.Carrying.{AreThere, CanCarry, GivesBack, carried}
 use Rattle.object_steps.specs.declared.array_loans.ArrayLoan.{ArrayLoan}
 use Rattle.object_steps.specs.declared.array_loans.ArrayLoan.TheVariants as loans
 
@@ -83,15 +83,15 @@ ok_then (Err e) then a = tt
 
 -- an array that comes back by the loan that its call brings
 pub taken_back_there : (s : Stored) (c : Call) (with : ArrayLoan) (h number : ℕ) (bytes : List ℕ) (l : Loan) → c ≡ call.UnmapArray h number bytes → with ≡ loans.Lent l →
-    CanCarry s c reply.Done → Brings c with → AreThere s.state (named_with bytes (object_at s.state l.array))
+    CanCarry s c reply.Done → GivesBack c reply.Done with → AreThere s.state (named_with bytes (object_at s.state l.array))
 taken_back_there s c with h number bytes l is lent can brings =
-    let brought : Brings (call.UnmapArray h number bytes) (loans.Lent l) = subst (Brings (call.UnmapArray h number bytes)) lent (subst (λ c. Brings c with) is brings) in
+    let brought : GivesBack (call.UnmapArray h number bytes) reply.Done (loans.Lent l) = subst (GivesBack (call.UnmapArray h number bytes) reply.Done) lent (subst (λ c. GivesBack c reply.Done with) is brings) in
     let there : CanCarry s (call.UnmapArray h number bytes) reply.Done = subst (λ c. CanCarry s c reply.Done) is can in
     subst (λ k. AreThere s.state (named_with bytes (object_at s.state k))) (sym brought.0) there.1
 
 pub taken_back_alike : (place : ℕ) (s : Stored) (c : Call) (with : ArrayLoan) (h number : ℕ) (bytes : List ℕ) (l : Loan) → c ≡ call.UnmapArray h number bytes → with ≡ loans.Lent l →
-    Brings c with → record s { state = changed_at l.array (change_array (holding bytes)) s.state } ≡ carried place c reply.Done s
+    GivesBack c reply.Done with → record s { state = changed_at l.array (change_array (holding bytes)) s.state } ≡ carried place c reply.Done s
 unfolding effect
 taken_back_alike place s c with h number bytes l is lent brings =
-    let brought : Brings (call.UnmapArray h number bytes) (loans.Lent l) = subst (Brings (call.UnmapArray h number bytes)) lent (subst (λ c. Brings c with) is brings) in
+    let brought : GivesBack (call.UnmapArray h number bytes) reply.Done (loans.Lent l) = subst (GivesBack (call.UnmapArray h number bytes) reply.Done) lent (subst (λ c. GivesBack c reply.Done with) is brings) in
     ap (λ k. record s { state = changed_at k (change_array (holding bytes)) s.state }) brought.0 ∙ ap (λ c. carried place c reply.Done s) (sym is)

@@ -1,2 +1,4 @@
+pub mod Carried
 pub mod CarryFacts
+pub mod Given
 pub mod ParameterLoanFacts

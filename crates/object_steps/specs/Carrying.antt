@@ -93,6 +93,12 @@ Brings (UnmapParameterArray h name number bytes) (loan.Param l) =
 Brings (UnmapParameterArray h name number bytes) _ = ⊥
 Brings call with = with ≡ loan.Nothing
 
+-- a call that gives an array back, and is done, comes with the loan of that array
+abbrev pub GivesBack : Call → Reply → ArrayLoan → Type 0
+GivesBack (UnmapArray h number bytes) reply.Done (loan.Lent l) = (l.array ≡ h) × (length l.elements.bytes ≡ length bytes)
+GivesBack (UnmapArray h number bytes) reply.Done _ = ⊥
+GivesBack call r with = Unit {0}
+
 -- the call gives no array back
 abbrev pub IsNoUnmap : Call → Type 0
 IsNoUnmap (UnmapArray h number bytes) = ⊥

@@ -10,7 +10,7 @@ ghost use Rattle.seq_model.specs.Refusals.{is_bad_shape, most_bytes};
 ghost use Rattle.seq_model.specs.State.{changed_at, object_at, parameter_loan, with_object};
 ghost use Rattle.seq_model.specs.Steps.{change_array, first_bytes, fresh_array, holding, lend_parameter, unmap_parameter, zeros};
 ghost use Rattle.seq_model.specs.declared.calls.Reply.TheVariants as reply;
-ghost use Rattle.object_steps.specs.Carrying.{AreThere, Brings, CanCarry, IsNoUnmap, carried, handed, with_born};
+ghost use Rattle.object_steps.specs.Carrying.{AreThere, CanCarry, GivesBack, IsNoUnmap, carried, handed, with_born};
 ghost use Rattle.object_steps.specs.ParameterLoans.{zero_elements};
 ghost use Rattle.object_steps.specs.declared.array_loans.ArrayLoan.TheVariants as loans;
 
@@ -39,7 +39,7 @@ pub fn carry_out(
     loan: ArrayLoan,
 ) -> Result<ArrayLoan, (NoMemory, ArrayLoan)>
     requires can { CanCarry store.old call.now reply.now }
-    requires brings { Brings call.now loan }
+    requires brings { GivesBack call.now reply.now loan }
     ensures ok { OnOk result (store.new ≡ carried place call.now reply.now store.old) }
     ensures handed { IfOk result (λ l. l ≡ handed place call.now reply.now store.old.state loan) }
     ensures returned { IfErr result (λ e. e.1 ≡ loan) }
@@ -302,7 +302,7 @@ fn finish(
     loan: ArrayLoan,
 ) -> Result<ArrayLoan, (NoMemory, ArrayLoan)>
     requires can { CanCarry store.old call.now reply.Done }
-    requires brings { Brings call.now loan }
+    requires brings { GivesBack call.now reply.Done loan }
     ensures ok { OnOk result (store.new ≡ carried place call.now reply.Done store.old) }
     ensures nothing { IfOk result (λ l. l ≡ loans.Nothing) }
     ensures returned { IfErr result (λ e. e.1 ≡ loan) }

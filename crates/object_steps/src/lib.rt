@@ -6,6 +6,7 @@
 #![tactic(auto)]
 
 pub mod array_loans;
+pub mod carry_laws;
 pub mod changes;
 pub mod lent_params;
 
