@@ -13,12 +13,13 @@ use Rattle.seq_model.specs.declared.calls.Call.TheVariants.{NewObject, NewArray,
 abbrev pub reaches : List (ℕ × List ℕ) → State → ℕ → ℕ
 reaches reached s h = count_by (λ t. is_reached_by reached t h) (flights s)
 
--- the objects are those that the history left, and each has the public references of the history, and as many holds as flights reached it
+-- the objects are those that the history left, and each has the public references of the history, and as many holds as flights reached it;
+-- no flight reached what is not there
 pub record IsAtRest (s : Stored) (history : History) : Type 0 where
   pub legal : Legal history
   pub state : s.state ≡ (after history).state
   pub public : (h : ℕ) → IsSome (object_at s.state h) → number_at s.public h ≡ public history h
-  pub holds : (h : ℕ) → IsSome (object_at s.state h) → number_at s.holds h ≡ reaches (after history).reached s.state h
+  pub holds : (h : ℕ) → number_at s.holds h ≡ reaches (after history).reached s.state h
 
 -- the call changes no frame
 abbrev pub IsOfObjects : Call → Type 0
