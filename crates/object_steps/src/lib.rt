@@ -1,9 +1,14 @@
-// The object calls over fast parts: the loans that they hand out.
+// The object calls over fast parts: what a call that was answered does to the objects and their
+// counts, and the loans that calls bring and hand out.
 //
 // Contracts see a loan for a parameter as its object, the parameter's name, its number and its
 // elements, which have bytes of their own.
 #![tactic(auto)]
 
+pub mod array_loans;
+pub mod carry_laws;
+pub mod changes;
 pub mod lent_params;
 
+pub use array_loans::ArrayLoan;
 pub use lent_params::LentParam;

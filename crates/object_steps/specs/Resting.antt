@@ -1,0 +1,37 @@
+-- A store that stands where a history led to.
+use Rattle.std.specs.Prelude.{◌≡◌, ℕ, List, count_by, true}
+use Rattle.std.specs.Option.{IsSome}
+use Rattle.object_store.specs.Kept.{Stored, number_at}
+use Rattle.seq_model.specs.Histories.{History, public}
+use Rattle.seq_model.specs.Legal.{Legal}
+use Rattle.seq_model.specs.State.{State, flights, object_at}
+use Rattle.seq_model.specs.Steps.{after, is_reached_by}
+use Rattle.seq_model.specs.declared.calls.Call.{Call}
+use Rattle.seq_model.specs.declared.calls.Call.TheVariants.{NewObject, NewArray, UnmapParameterArray, RenderFrame, DiscardFrame, MapFrame, UnmapFrame}
+
+-- how many flights of a state reached an object
+abbrev pub reaches : List (ℕ × List ℕ) → State → ℕ → ℕ
+reaches reached s h = count_by (λ t. is_reached_by reached t h) (flights s)
+
+-- the objects are those that the history left, and each has the public references of the history, and as many holds as flights reached it;
+-- no flight reached what is not there
+pub record IsAtRest (s : Stored) (history : History) : Type 0 where
+  pub legal : Legal history
+  pub state : s.state ≡ (after history).state
+  pub public : (h : ℕ) → IsSome (object_at s.state h) → number_at s.public h ≡ public history h
+  pub holds : (h : ℕ) → number_at s.holds h ≡ reaches (after history).reached s.state h
+
+-- the call changes no frame
+abbrev pub IsOfObjects : Call → Type 0
+IsOfObjects (RenderFrame h) = ⊥
+IsOfObjects (DiscardFrame h) = ⊥
+IsOfObjects (MapFrame h channel) = ⊥
+IsOfObjects (UnmapFrame h number) = ⊥
+IsOfObjects call = Unit {0}
+
+-- there is room for what the call makes
+abbrev pub HasRoom : Stored → Call → Type 0
+HasRoom s (NewObject t subtype) = s.ready ≡ true
+HasRoom s (NewArray elem count stride origin bytes) = s.ready ≡ true
+HasRoom s (UnmapParameterArray h name number bytes) = s.ready ≡ true
+HasRoom s call = Unit {0}
