@@ -9,6 +9,7 @@ mod calls;
 mod kept;
 mod lookups;
 mod names;
+mod stops;
 mod work;
 
 pub use books::FlightBooks;
