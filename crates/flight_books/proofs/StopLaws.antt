@@ -19,7 +19,7 @@ pub is_stop_stopped : (f g : Flying) → IsStop f g → is_stopped g ≡ true
 is_stop_stopped f g stop = ap is_stopped stop.now
 
 -- the first that passes passes
-found_passes : (p : Flying → Bool) (fs : List Flying) (f : Flying) → find p fs ≡ Some f → p f ≡ true
+pub found_passes : (p : Flying → Bool) (fs : List Flying) (f : Flying) → find p fs ≡ Some f → p f ≡ true
 found_passes p [] f is = absurd (none-some f is)
 found_passes p (x ∷ fs) f is = by (either (p x)) (found_passes p fs f)
   where
