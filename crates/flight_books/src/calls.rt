@@ -77,7 +77,8 @@ impl<T> FlightBooks<T> {
     /// many its first seat claimed.
     pub fn claimed(&mut self, ticket: u64) -> u64
         requires { IsSomeAnd (flight_at self.old.future ticket) (λ f. f.home ≡ true) }
-        ensures { IfSome (flight_at self.old.future ticket) (λ f. (g : Flying) × IsCount f g result × (self.new ≡ with_future self.old (with_flight_at self.old.future ticket g))) }
+        ensures counted { IfSome (flight_at self.old.future ticket) (λ f. (g : Flying) × IsCount f g result × (self.new ≡ with_future self.old (with_flight_at self.old.future ticket g))) }
+        ensures home { AreHome self.old.future → AreHome self.new.future }
     {
         let _kept = &self.cargo;
         self.frames.claimed(ticket)

@@ -7,11 +7,17 @@
 mod books;
 mod calls;
 mod kept;
+mod laws;
 mod lookups;
 mod names;
+mod stops;
 mod work;
 
 pub use books::FlightBooks;
 pub use kept::{Cargo, Over};
+pub use laws::{
+    a_begun_flight_reads_nothing, a_given_flight_ends, each_flight_has_its_cargo,
+    stopped_flights_that_stay_were_handed_out, unworked_flights_stay, what_was_lent_comes_home,
+};
 pub use lookups::fresh;
 pub use work::{Handed, Handout};

@@ -2,6 +2,8 @@
 ghost use Rattle.std.specs.Prelude.{◌≡◌, length, map, option_copied, IfOk};
 ghost use Rattle.std.specs.List.{slice_get};
 ghost use Rattle.std.specs.Option.{option_map};
+ghost use Rattle.tile_claims.specs.Seats.{view};
+ghost use Rattle.tile_claims.specs.Views.{looking_at_claims};
 ghost use Rattle.frame_future.specs.Flights.{IsNew};
 ghost use Rattle.flight_books.specs.Kept.{cargo_at, cargo_of};
 
@@ -75,6 +77,7 @@ pub fn fresh(claims: &Claims, seat: &mut Seat) -> u64
     requires { IsNew claims.now seat.old }
     ensures none { result ≡ 0 }
     ensures new { IsNew claims.now seat.new }
+    ensures view { view seat.new ≡ looking_at_claims (view seat.old) (view seat.new).claims.last }
 {
     claims.claimed(seat)
 }

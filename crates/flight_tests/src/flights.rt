@@ -26,7 +26,12 @@ fn point(x: i64, y: i64) -> Vec3 {
 
 /// A red triangle below the diagonal of a window of four by four, before green: its primitive has the
 /// number 3, and its surface the id 7.
-fn half_red(rt: &impl Abort, alloc: Global, width: u32, height: u32) -> Result<Scene, AllocError>
+pub(crate) fn half_red(
+    rt: &impl Abort,
+    alloc: Global,
+    width: u32,
+    height: u32,
+) -> Result<Scene, AllocError>
     ensures within { IfOk result IsSceneWithin }
     ensures size { IfOk result (λ s. (s.width ≡ width) × (s.height ≡ height)) }
 {
@@ -159,7 +164,7 @@ fn naming(scene: &Scene) -> Key
 }
 
 /// Claims a tile, fills it and gives it, if there is one.
-fn give_one(claims: &Claims, seat: &mut Seat, scene: &Scene)
+pub(crate) fn give_one(claims: &Claims, seat: &mut Seat, scene: &Scene)
     requires scene { IsSceneWithin scene.now }
     requires same_scene { scene_of (key_of claims.now) ≡ scene.now }
     requires seat { IsSeatOf claims.now seat.old }
@@ -180,7 +185,7 @@ fn give_one(claims: &Claims, seat: &mut Seat, scene: &Scene)
 }
 
 /// The claims of a scene, with their first seat.
-fn claims_of(alloc: Global, scene: &Scene) -> Result<(Claims, Seat), NoMemory>
+pub(crate) fn claims_of(alloc: Global, scene: &Scene) -> Result<(Claims, Seat), NoMemory>
     requires { IsSceneWithin scene.now }
     ensures key { IfOk result (λ t. scene_of (key_of t.0) ≡ scene.now) }
     ensures sized { IfOk result (λ t. HasSides (key_of t.0)) }
