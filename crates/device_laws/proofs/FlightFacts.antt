@@ -128,7 +128,7 @@ flight_is k (Done t) is = absurd cc
 flight_is k (Flight t) is = ap Flight (eqb-true t k is)
 
 -- a render that was granted finds its frame, and that is not in flight
-record IsRenderable (past : Past) (f : ℕ) : Type 0 where
+pub record IsRenderable (past : Past) (f : ℕ) : Type 0 where
   object : Object
   there : object_at past.state f ≡ Some object
   landed : (k : ℕ) → is_flight k object.phase ≡ true → ⊥
@@ -138,7 +138,7 @@ no_flight past Empty k none is = cc
 no_flight past (Done t) k none is = cc
 no_flight past (Flight t) k none is = cc
 
-is_renderable : (history : History) (actor f : ℕ) → Legal (history ++ render_of actor f ∷ []) → IsRenderable (after history) f
+pub is_renderable : (history : History) (actor f : ℕ) → Legal (history ++ render_of actor f ∷ []) → IsRenderable (after history) f
 unfolding refusal refusals_of
 is_renderable history actor f legal =
     let none : refusal (after history) (RenderFrame f) ≡ None = (given (after history) (RenderFrame f) reply.Done (in_place history (render_of actor f) [] legal).0 (λ refused is. cc)).0 in

@@ -1,5 +1,5 @@
 -- Which flights there are after an entry, and which of them were stopped.
-use Rattle.std.specs.Prelude.{ℕ, ◌==◌, not, ◌&&◌, ◌||◌, Bool}
+use Rattle.std.specs.Prelude.{ℕ, ◌==◌, not, ◌&&◌, ◌||◌, Bool, false, true}
 use Rattle.seq_model.specs.Life.{has}
 use Rattle.seq_model.specs.Refusals.{phase_at}
 use Rattle.seq_model.specs.Steps.{Past}
@@ -21,3 +21,11 @@ abbrev pub stopped_after : Past → Entry → ℕ → Bool
 stopped_after past (Called _ (DiscardFrame f) reply.Done) t = has t past.state.stopped || is_flight t (phase_at past f)
 stopped_after past (Left u) t = not (u == t) && has t past.state.stopped
 stopped_after past e t = has t past.state.stopped
+
+-- whether an entry begins, ends or stops a flight
+abbrev pub moves_flights : Entry → Bool
+moves_flights (Called _ (RenderFrame f) reply.Done) = true
+moves_flights (Called _ (DiscardFrame f) reply.Done) = true
+moves_flights (Finished u) = true
+moves_flights (Left u) = true
+moves_flights e = false
