@@ -1,0 +1,5 @@
+use Rattle.device_laws.proofs.FlownFacts.{others_keep}
+use Rattle.device_laws.proofs.flight_laws.other_entries_keep_the_flights.Goals as goal
+
+pub returns : goal.returns
+returns c = others_keep

@@ -1,0 +1,4 @@
+pub mod Changing
+pub mod FlightMoves
+pub mod Flown
+pub mod Showings

@@ -1,0 +1,82 @@
+//! What entries make of the flights that a device keeps: each law is the contract of a function that
+//! does nothing.
+ghost use Rattle.std.specs.Prelude.{◌≡◌, ◌==◌, ◌||◌, ◌+◌, ◌++◌, ◌∷◌, [], ℕ, Bool, List, Some, false, length, map, true};
+ghost use Rattle.dev_types.specs.declared.data_types.DataType.{DataType};
+ghost use Rattle.dev_types.specs.declared.handles.Channel.{Channel};
+ghost use Rattle.flight_books.specs.Sweeps.{notes_of};
+ghost use Rattle.frame_future.specs.Flights.{Flying};
+ghost use Rattle.frame_future.specs.Future.{Rising};
+ghost use Rattle.frame_future.specs.Reads.{AreRead, left_by};
+ghost use Rattle.past_laws.specs.Worlds.{render_of};
+ghost use Rattle.seq_model.specs.Histories.{History, frame_at};
+ghost use Rattle.seq_model.specs.Legal.{Legal};
+ghost use Rattle.seq_model.specs.Life.{has};
+ghost use Rattle.seq_model.specs.Refusals.{mapped_at, phase_at};
+ghost use Rattle.seq_model.specs.State.{Flight, flights};
+ghost use Rattle.seq_model.specs.Steps.{after};
+ghost use Rattle.seq_model.specs.declared.calls.Call.TheVariants.{DiscardFrame, MapFrame};
+ghost use Rattle.seq_model.specs.declared.calls.Entry.{Entry};
+ghost use Rattle.seq_model.specs.declared.calls.Entry.TheVariants.{Called};
+ghost use Rattle.seq_model.specs.declared.calls.Reply.TheVariants as reply;
+ghost use Rattle.device_laws.specs.FlightMoves.{moves_flights};
+ghost use Rattle.device_laws.specs.Flown.{Flown, IsNoted, LetsNotes, Run, runs_of, stopped_runs};
+
+/// A render that was done begins one flight, whose ticket is its place; its frame is then in flight.
+pub fn renders_begin_a_flight()
+    ensures flights { (history : History) (actor f t : ℕ)
+        → Legal (history ++ render_of actor f ∷ [])
+        → has t (flights (after (history ++ render_of actor f ∷ [])).state) ≡ ((length history + 1 == t) || has t (flights (after history).state)) }
+    ensures phase { (history : History) (actor f : ℕ)
+        → Legal (history ++ render_of actor f ∷ [])
+        → phase_at (after (history ++ render_of actor f ∷ [])) f ≡ Flight (length history + 1) }
+    ensures flown { (history : History) (actor f : ℕ) (runs : List Run)
+        → Legal (history ++ render_of actor f ∷ [])
+        → Flown history runs
+        → Flown (history ++ render_of actor f ∷ []) (runs ++ record { ticket = length history + 1; frame = f; stopped = false } ∷ []) }
+{}
+
+/// A discard that was done stops the flight of its frame, which flies on until its note.
+pub fn discards_stop_a_flight()
+    ensures { (history : History) (actor f : ℕ) (runs : List Run)
+        → Legal (history ++ Called actor (DiscardFrame f) reply.Done ∷ [])
+        → Flown history runs
+        → Flown (history ++ Called actor (DiscardFrame f) reply.Done ∷ []) (stopped_runs f runs) }
+{}
+
+/// A sweep notes the flights that it ends, one after the other. The notes may stand there, others may
+/// follow them, and the flights that the sweep leaves are those of the history then.
+pub fn notes_end_a_flight()
+    ensures { (history : History) (fs : List Flying) (reads : List ℕ)
+        → Legal history
+        → LetsNotes history
+        → Rising (map (λ f. f.ticket) fs)
+        → AreRead fs reads
+        → Flown history (runs_of fs)
+        → IsNoted (history ++ notes_of fs reads) (runs_of (left_by fs reads)) }
+{}
+
+/// Every other entry leaves the flights as they are.
+pub fn other_entries_keep_the_flights()
+    ensures { (history : History) (e : Entry) (runs : List Run)
+        → Legal (history ++ e ∷ [])
+        → moves_flights e ≡ false
+        → Flown history runs
+        → Flown (history ++ e ∷ []) runs }
+{}
+
+/// A flight that was not stopped is what the frame of its render shows.
+pub fn flights_are_shown_by_their_frames()
+    ensures { (history : History) (t f : ℕ)
+        → has t (flights (after history).state) ≡ true
+        → has t (after history).state.stopped ≡ false
+        → frame_at history t ≡ Some f
+        → phase_at (after history) f ≡ Flight t }
+{}
+
+/// A channel that is mapped is lent by its entry: its loan has that place for its number.
+pub fn maps_lend_a_channel()
+    ensures { (history : History) (actor f : ℕ) (channel : Channel) (width height : ℕ) (t : DataType) (rows : List ℕ)
+        → Legal (history ++ Called actor (MapFrame f channel) (reply.Mapped width height t rows) ∷ [])
+        → mapped_at (after (history ++ Called actor (MapFrame f channel) (reply.Mapped width height t rows) ∷ [])) f
+        ≡ mapped_at (after history) f ++ (channel, length history + 1) ∷ [] }
+{}

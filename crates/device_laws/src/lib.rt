@@ -1,0 +1,15 @@
+//! What a device over fast parts knows of a history with one entry more, over the definitions alone:
+//! what the entry makes of its frames and flights, which objects it changes, and which it leaves.
+#![tactic(auto)]
+
+mod entry_laws;
+mod flight_laws;
+
+pub use entry_laws::{
+    burials_end_an_entry, burials_leave_what_lives, calls_change_the_objects, entries_move_flights,
+    entries_move_frames,
+};
+pub use flight_laws::{
+    discards_stop_a_flight, flights_are_shown_by_their_frames, maps_lend_a_channel,
+    notes_end_a_flight, other_entries_keep_the_flights, renders_begin_a_flight,
+};
