@@ -1,4 +1,3 @@
 -- Lemmas of this crate.
 pub mod Complete
-mod OptionFacts
 mod WriteFacts

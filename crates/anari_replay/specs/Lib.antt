@@ -1,6 +1,4 @@
 -- What the clauses of this crate cite.
-pub mod Options
-pub mod Words
 pub mod Input
 pub mod Faults
 pub mod Outcome

@@ -1,44 +1,50 @@
 -- What each command reads, makes and writes, and how it ends.
 use Rattle.std.specs.Prelude.{◌≡◌, ◌⊎◌, ⊤, ℕ, List, [], Option, Some, None, Bool}
+use Rattle.command_words.specs.declared.commands.Command.{Command}
+use Rattle.command_words.specs.declared.commands.Command.TheVariants.{Solo, Run, Make, Demo, Describe, Wire, Check, Ring}
 use Rattle.report_text.specs.Reports.{report}
 use Rattle.seq_model.specs.Histories.{History}
 use Rattle.table_text.specs.Tables.{description}
+use Rattle.trace_make.specs.Made.{made}
 use Rattle.anari_replay.specs.Input.{HasTrace, IsReplay}
-use Rattle.anari_replay.specs.declared.words.Command.{Command}
-use Rattle.anari_replay.specs.declared.words.Command.TheVariants.{Solo, Describe}
 
--- the statuses with which a command may end; where there is none the words are refused
+-- the statuses with which a command may end; words are refused that give none, or one that is not done here
 abbrev pub IsEnding : Option Command → ℕ → Type 0
-IsEnding None status = status ≡ 2
-IsEnding (Some (Solo _)) status = (status ≡ 0) ⊎ (status ≡ 3) ⊎ (status ≡ 4) ⊎ (status ≡ 5) ⊎ (status ≡ 6)
+IsEnding None status = (status ≡ 2) ⊎ (status ≡ 3)
+IsEnding (Some (Solo print)) status = (status ≡ 0) ⊎ (status ≡ 3) ⊎ (status ≡ 4) ⊎ (status ≡ 5) ⊎ (status ≡ 6)
+IsEnding (Some (Make recipe)) status = (status ≡ 0) ⊎ (status ≡ 3) ⊎ (status ≡ 5)
 IsEnding (Some Describe) status = (status ≡ 0) ⊎ (status ≡ 3) ⊎ (status ≡ 5)
+IsEnding (Some (Run print workers)) status = (status ≡ 2) ⊎ (status ≡ 3)
+IsEnding (Some (Demo recipe)) status = (status ≡ 2) ⊎ (status ≡ 3)
+IsEnding (Some Wire) status = (status ≡ 2) ⊎ (status ≡ 3)
+IsEnding (Some Check) status = (status ≡ 2) ⊎ (status ≡ 3)
+IsEnding (Some (Ring slots pictures readers)) status = (status ≡ 2) ⊎ (status ≡ 3)
 
--- there is a command, and where it reads it finds a trace
+-- there is a command that is done here, and where it reads it finds a trace
 abbrev pub FindsTrace : Option Command → Option (List ℕ) → Type 0
-FindsTrace None left = ⊥
-FindsTrace (Some (Solo _)) left = HasTrace left
+FindsTrace (Some (Solo print)) left = HasTrace left
+FindsTrace (Some (Make recipe)) left = ⊤
 FindsTrace (Some Describe) left = ⊤
+FindsTrace command left = ⊥
 
 -- all but a replay read nothing
 abbrev pub ReadsNothing : Option Command → Type 0
-ReadsNothing None = ⊤
-ReadsNothing (Some (Solo _)) = ⊥
-ReadsNothing (Some Describe) = ⊤
+ReadsNothing (Some (Solo print)) = ⊥
+ReadsNothing command = ⊤
 
 -- and make no calls on a device
 abbrev pub MakesNothing : Option Command → Type 0
-MakesNothing None = ⊤
-MakesNothing (Some (Solo _)) = ⊥
-MakesNothing (Some Describe) = ⊤
+MakesNothing (Some (Solo print)) = ⊥
+MakesNothing command = ⊤
 
 -- the history of a command that was done whole: a replay's is what one thread makes of the trace that was read
 abbrev pub IsHistoryOf : Option Command → Option (List ℕ) → Option (List ℕ) → Bool → History → Type 0
-IsHistoryOf None old new ended history = history ≡ []
-IsHistoryOf (Some (Solo _)) old new ended history = IsReplay old new ended history
-IsHistoryOf (Some Describe) old new ended history = history ≡ []
+IsHistoryOf (Some (Solo print)) old new ended history = IsReplay old new ended history
+IsHistoryOf command old new ended history = history ≡ []
 
--- what a command writes: a replay what is asked for of its history and its builds, or the tables
+-- what a command writes: a replay what is asked for of its history and its builds, the trace that is made, or the tables
 abbrev pub output_of : Option Command → History → ℕ → List ℕ
-output_of None history builds = []
 output_of (Some (Solo print)) history builds = report print history builds
+output_of (Some (Make recipe)) history builds = made recipe.seed recipe.callers recipe.frames
 output_of (Some Describe) history builds = description
+output_of command history builds = []

@@ -2,7 +2,6 @@
 #![tactic(auto)]
 
 mod fault;
-mod options;
 mod outcome;
 mod replay;
 #[cfg(test)]

@@ -1,6 +1,7 @@
 //! The top call: words and a trace in, what the words ask for out.
 ghost use Rattle.std.specs.Prelude.{◌≡◌, ◌↔◌, ◌⊎◌, [], None, false, IsSome, IfErr, IfOk, IsErrOf, OnErr, OnOk};
 ghost use Rattle.std.specs.Io.KnownBytes.{Appends};
+ghost use Rattle.command_words.specs.Commands.{CanBeMade, IsInRange, commanded};
 ghost use Rattle.report_text.specs.Reports.{report};
 ghost use Rattle.replay_core.specs.Views.{notices_of};
 ghost use Rattle.replay_io.specs.Faults.{Rose};
@@ -9,7 +10,7 @@ ghost use Rattle.seq_model.specs.Builds.{builds};
 ghost use Rattle.seq_model.specs.Legal.{Legal};
 ghost use Rattle.seq_model.specs.Told.{told};
 ghost use Rattle.table_text.specs.Tables.{description};
-ghost use Rattle.anari_replay.specs.Words.{commanded};
+ghost use Rattle.trace_make.specs.Made.{made};
 ghost use Rattle.anari_replay.specs.Input.{GaveNoMore, IsRefused, IsReplay};
 ghost use Rattle.anari_replay.specs.Faults.{IsCauseAfter, IsCauseBefore, NoneRose};
 ghost use Rattle.anari_replay.specs.Outcome.{IsAfterReplay, IsBeforeReplay, IsInPart};
@@ -17,29 +18,30 @@ ghost use Rattle.anari_replay.specs.Output.{FindsTrace, IsEnding, IsHistoryOf, M
 
 use crate::fault::Fault;
 use crate::outcome::Outcome;
-use crate::words::{Command, command_of};
+use command_words::{Command, NotTaken, Recipe, command_of};
 use replay_core::{Replayed, solo};
 use replay_io::{Sink, Source, read_up_to, write_all};
 use report_text::{Print, report};
 use std::alloc::Global;
 use table_text::describe;
+use trace_make::make;
 use trace_text::read_trace;
 
 /// One byte more than a trace may have.
 const MOST_READ: usize = 67108865;
 
 /// Does what the words after the program's name ask for: `solo` replays the trace that `source` gives on
-/// one thread and writes what is printed of it to `sink`, `describe` writes the tables of kinds and
-/// parameters. Waits for nobody and always returns.
+/// one thread and writes what is printed of it to `sink`, `make` writes the trace that a seed makes,
+/// `describe` the tables of kinds and parameters. Waits for nobody and always returns.
 pub fn run_plain<S: Source, K: Sink>(
     alloc: Global,
     words: &[String],
     source: &mut S,
     sink: &mut K,
 ) -> Outcome
-    // Status 2 comes exactly where the words give no command, and each command has its own statuses.
+    // Each command has its own statuses. Words that give none, or one that is not done here, come to
+    // status 2, but for want of memory.
     ensures known { IsEnding (commanded words.now) result.status }
-    ensures words { (result.status ≡ 2) ↔ (commanded words.now ≡ None) }
 
     // A command that finds a trace where it reads is done, but for want of memory, where no fault is counted.
     ensures complete { FindsTrace (commanded words.now) (S.left source.old)
@@ -80,20 +82,24 @@ pub fn run_plain<S: Source, K: Sink>(
     ensures untold { IsBeforeReplay result.status → notices_of result.told ≡ [] }
     ensures silent { IsBeforeReplay result.status → sink.new ≡ sink.old }
 {
-    run_command(alloc, command_of(words), source, sink)
+    match command_of(alloc, words) {
+        Ok(command) => run_command(alloc, command, source, sink),
+        Err(NotTaken::Refused) => Outcome::without_replay(alloc, Err(Fault::Words)),
+        Err(NotTaken::NoMemory) => Outcome::without_replay(alloc, Err(Fault::Memory)),
+    }
 }
 
-/// Does a command, or refuses the words where there is none.
+/// Does a command.
 #[tactic(auto, using(crate::proofs::Complete::gave_nothing))]
 fn run_command<S: Source, K: Sink>(
     alloc: Global,
-    command: Option<Command>,
+    command: Command,
     source: &mut S,
     sink: &mut K,
 ) -> Outcome
-    ensures known { IsEnding command result.status }
-    ensures words { (result.status ≡ 2) ↔ (command ≡ None) }
-    ensures unread { ReadsNothing command → source.new ≡ source.old }
+    requires { IsInRange command }
+    ensures known { IsEnding (Some command) result.status }
+    ensures unread { ReadsNothing (Some command) → source.new ≡ source.old }
     ensures taken { GaveNoMore (S.left source.old) (S.left source.new) }
     ensures read_fault { result.status ≡ 4 → Rose (S.faults source.old) (S.faults source.new) }
     ensures write_fault { result.status ≡ 5 → Rose (K.faults sink.old) (K.faults sink.new) }
@@ -101,26 +107,34 @@ fn run_command<S: Source, K: Sink>(
         → IsRefused (S.left source.old) (S.left source.new) (S.ended source.new) result.fault }
     ensures fault { IsSome result.fault ↔ (result.status ≡ 6) }
     ensures replayed { IsAfterReplay result.status
-        → IsHistoryOf command (S.left source.old) (S.left source.new) (S.ended source.new) result.history }
+        → IsHistoryOf (Some command) (S.left source.old) (S.left source.new) (S.ended source.new) result.history }
     ensures legal { Legal result.history }
     ensures told { notices_of result.told ≡ told result.history }
     ensures builds { result.builds ≡ builds result.history }
     ensures written { result.status ≡ 0
-        → Appends (K.written sink.old) (K.written sink.new) (output_of command result.history result.builds) }
+        → Appends (K.written sink.old) (K.written sink.new) (output_of (Some command) result.history result.builds) }
     ensures written_in_part { IsInPart result.status
-        → AppendsPrefix (K.written sink.old) (K.written sink.new) (output_of command result.history result.builds) }
-    ensures uncalled { MakesNothing command → (result.history ≡ []) × (notices_of result.told ≡ []) }
+        → AppendsPrefix (K.written sink.old) (K.written sink.new) (output_of (Some command) result.history result.builds) }
+    ensures uncalled { MakesNothing (Some command) → (result.history ≡ []) × (notices_of result.told ≡ []) }
     ensures unmade { IsBeforeReplay result.status → result.history ≡ [] }
     ensures untold { IsBeforeReplay result.status → notices_of result.told ≡ [] }
     ensures silent { IsBeforeReplay result.status → sink.new ≡ sink.old }
 {
     match command {
-        Some(Command::Solo(print)) => run_solo(alloc, print, source, sink),
-        Some(Command::Describe) => {
+        Command::Solo(print) => run_solo(alloc, print, source, sink),
+        Command::Make(recipe) => {
+            let written = write_made(alloc, recipe, sink);
+            Outcome::without_replay(alloc, written)
+        }
+        Command::Describe => {
             let written = write_tables(alloc, sink);
             Outcome::without_replay(alloc, written)
         }
-        None => Outcome::without_replay(alloc, Err(Fault::Words)),
+        Command::Run { .. }
+        | Command::Demo(_)
+        | Command::Wire
+        | Command::Check
+        | Command::Ring { .. } => Outcome::without_replay(alloc, Err(Fault::Words)),
     }
 }
 
@@ -214,5 +228,20 @@ fn write_tables<K: Sink>(alloc: Global, sink: &mut K) -> Result<(), Fault>
 {
     let tables = describe(alloc)?;
     write_all(sink, tables.as_slice())?;
+    Ok(())
+}
+
+/// Writes the trace that is made so.
+fn write_made<K: Sink>(alloc: Global, recipe: Recipe, sink: &mut K) -> Result<(), Fault>
+    requires { CanBeMade recipe }
+    ensures written { OnOk result (Appends (K.written sink.old) (K.written sink.new)
+        (made recipe.seed recipe.callers recipe.frames)) }
+    ensures in_part { OnErr result (AppendsPrefix (K.written sink.old) (K.written sink.new)
+        (made recipe.seed recipe.callers recipe.frames)) }
+    ensures write_fault { IsErrOf result Fault.Write → Rose (K.faults sink.old) (K.faults sink.new) }
+    ensures cause { IfErr result IsCauseAfter }
+{
+    let text = make(alloc, recipe.seed, recipe.callers, recipe.frames)?;
+    write_all(sink, text.as_bytes())?;
     Ok(())
 }

@@ -92,7 +92,7 @@ fn what_happened_and_was_told_is_counted(rt: HostRuntime) -> Result<(), Fail> {
 
 #[test]
 fn other_words_are_refused_and_nothing_is_read(rt: HostRuntime) -> Result<(), Fail> {
-    let cases: [&[&str]; 22] = [
+    let cases: [&[&str]; 40] = [
         &[],
         &[""],
         &["paint"],
@@ -115,6 +115,47 @@ fn other_words_are_refused_and_nothing_is_read(rt: HostRuntime) -> Result<(), Fa
         &["solo", "--workers", "4"],
         &["describe", "x"],
         &["describe", "--print=images"],
+        &["-h"],
+        &["--version"],
+        &["make"],
+        &["make", "--seed", "1"],
+        &["make", "--seed", "1", "--callers", "0", "--frames", "1"],
+        &["make", "--seed", "1", "--callers", "9", "--frames", "1"],
+        &["make", "--seed", "1", "--callers", "1", "--frames", "65"],
+        &["make", "--seed", "+7", "--callers", "1", "--frames", "1"],
+        &["make", "--seed", "-1", "--callers", "1", "--frames", "1"],
+        &[
+            "make",
+            "--seed",
+            "4294967296",
+            "--callers",
+            "1",
+            "--frames",
+            "1",
+        ],
+        &[
+            "make",
+            "--seed",
+            "00000000001",
+            "--callers",
+            "1",
+            "--frames",
+            "1",
+        ],
+        &[
+            "make",
+            "--seed=1",
+            "--callers=1",
+            "--frames=1",
+            "--frames=1",
+        ],
+        // Commands that only a run with threads does, and some that are not built.
+        &["run"],
+        &["run", "--workers", "17"],
+        &["demo", "--seed", "7", "--callers", "1", "--frames", "1"],
+        &["wire"],
+        &["check"],
+        &["ring", "--slots", "2", "--pictures", "2", "--readers", "1"],
     ];
     for given in cases {
         let words = words_of(rt.alloc(), given)?;
@@ -197,6 +238,26 @@ fn the_tables_are_written_and_nothing_is_read(rt: HostRuntime) -> Result<(), Fai
         assert_eq!(rt; source.left(), b"abc".as_slice());
         assert!(rt; outcome.history.is_empty() && outcome.told.is_empty());
         assert_eq!(rt; sink.written().starts_with(first.as_bytes()), status == 0);
+    }
+    Ok(())
+}
+
+#[test]
+fn a_trace_is_made_and_nothing_is_read(rt: HostRuntime) -> Result<(), Fail> {
+    let cases: [&[&str]; 2] = [
+        &["make", "--seed", "1", "--callers", "1", "--frames", "1"],
+        &["make", "--frames=0000000001", "--seed=001", "--callers=1"],
+    ];
+    for given in cases {
+        let words = words_of(rt.alloc(), given)?;
+        let mut source = MemorySource::new(b"abc".to_vec(rt.alloc())?, [1].to_vec(rt.alloc())?);
+        let mut sink = MemorySink::new(rt.alloc(), Vec::new(rt.alloc()));
+        let outcome = run_plain(rt.alloc(), words.as_slice(), &mut source, &mut sink);
+        assert_eq!(rt; outcome.status, 0, "{given:?}");
+        assert_eq!(rt; source.left(), b"abc".as_slice());
+        assert!(rt; outcome.history.is_empty() && outcome.told.is_empty());
+        assert!(rt; sink.written().starts_with(br#"{"phases":[{"callers":[[{"#));
+        assert!(rt; sink.written().ends_with(b"\n"));
     }
     Ok(())
 }

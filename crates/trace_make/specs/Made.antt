@@ -23,5 +23,5 @@ abbrev pub trace : List Data → Data
 trace ds = fields ((codes "phases", list ds) ∷ (codes "trace", number (unsigned 1)) ∷ [])
 
 -- the trace of a seed, for so many callers with so many frames each, as compact JSON and a newline
-abbrev pub made : ℕ → ℕ → ℕ → List ℕ
+unfoldable pub made : ℕ → ℕ → ℕ → List ℕ
 made seed callers frames = compact_text (trace (phases seed callers frames)) ++ 10 ∷ []

@@ -1,0 +1,5 @@
+-- What the clauses of this crate cite.
+pub mod Commands
+pub mod Numbers
+pub mod Options
+pub mod Reading
