@@ -40,7 +40,8 @@ pub fn a_given_flight_ends<T>()
 pub fn stopped_flights_that_stay_were_handed_out<T>()
     ensures { (old new : Books T) (before after : History) → AreBooks old
         → AllByRecursion (λ f. is_stopped f ≡ true) old.future.flights
-        → IsSwept old new before after → AllByRecursion (λ f. IsAlone f.view → ⊥) new.future.flights }
+        → IsSwept old new before after
+        → AllByRecursion (λ f. IsAlone f.view → ⊥) new.future.flights }
 {}
 
 /// With each flight something is kept, and with all that is kept there is a flight; both are found
