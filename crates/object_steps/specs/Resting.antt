@@ -5,7 +5,7 @@ use Rattle.object_store.specs.Kept.{Stored, number_at}
 use Rattle.seq_model.specs.Histories.{History, public}
 use Rattle.seq_model.specs.Legal.{Legal}
 use Rattle.seq_model.specs.State.{State, flights, object_at}
-use Rattle.seq_model.specs.Steps.{after, change, is_reached_by, next_place, step}
+use Rattle.seq_model.specs.Steps.{Past, after, change, is_reached_by, next_place, step}
 use Rattle.seq_model.specs.declared.calls.Call.{Call}
 use Rattle.seq_model.specs.declared.calls.Entry.{Entry}
 use Rattle.seq_model.specs.declared.calls.Call.TheVariants.{NewObject, NewArray, UnmapParameterArray, RenderFrame, DiscardFrame, MapFrame, UnmapFrame}
@@ -43,3 +43,11 @@ HasRoom s (NewObject t subtype) = s.ready ≡ true
 HasRoom s (NewArray elem count stride origin bytes) = s.ready ≡ true
 HasRoom s (UnmapParameterArray h name number bytes) = s.ready ≡ true
 HasRoom s call = Unit {0}
+
+-- a store, and the history that led to it; and the past that this is
+pub record Rested : Type 0 where
+  pub stored : Stored
+  pub history : History
+
+abbrev pub past_of : Rested → Past
+past_of r = record { seen = r.history; state = r.stored.state; reached = (after r.history).reached }
