@@ -1,5 +1,5 @@
 //! A store between two entries, as it is asked why a call is refused and what it is answered.
-ghost use Rattle.std.specs.Prelude.{◌≡◌, refl};
+ghost use Rattle.std.specs.Prelude.{◌≡◌, ◌+◌, length, refl};
 ghost use Rattle.call_answers.specs.Showing.{IsKnown, phase_of};
 ghost use Rattle.object_store.specs.Phases.{phase_of as phase_in};
 ghost use Rattle.past_laws.specs.Open.{IsOpen};
@@ -16,59 +16,55 @@ use kind_tables::Kind;
 use object_store::slots::Shows;
 use object_store::store::Store;
 use scene_read::Objects;
-use seq_model::Entry;
 use std::marker::Model;
 
-/// What is known of the renders that frames show.
-pub trait Renders {
-    /// The history of which they are known.
-    ghost known: { Self → History };
+/// What is recorded of a device beside its objects.
+pub trait Records {
+    /// All that happened on the device.
+    ghost history: { Self → History };
 
-    /// What a frame has to show, by what a store says of it.
+    /// The place of the next entry.
+    fn place(&self) -> u64
+        ensures { result ≡ length (history self.now) + 1 };
+
+    /// What a frame has to show, by what a store says of it, with what is known of the render.
     fn shown(&self, h: Handle, shows: Shows) -> Shown
-        requires { phase_at (after (known self.now)) h ≡ phase_in shows }
+        requires { phase_at (after (history self.now)) h ≡ phase_in shows }
         ensures phase { phase_of result ≡ phase_in shows }
-        ensures known { IsKnown (known self.now) result };
+        ensures known { IsKnown (history self.now) result };
 }
 
-/// A store where a journal led to, which a call may follow.
+/// A store where a history led to, which a call may follow.
 #[derive(Drop)]
-pub struct AtRest<'a, R: Renders> {
+pub struct AtRest<'a, R: Records> {
     store: &'a Store,
-    entries: &'a [Entry],
-    renders: &'a R,
+    records: &'a R,
 }
 
-impl<'a, R: Renders> Model for AtRest<'a, R> {
-    ghost use Rattle.std.specs.Prelude.{◌≡◌};
+impl<'a, R: Records> Model for AtRest<'a, R> {
     ghost use Rattle.object_steps.specs.Resting.{IsAtRest, Rested};
     ghost use Rattle.past_laws.specs.Open.{IsOpen};
 
     ghost Value = { Rested };
 
-    ghost view = { λ r. record { stored = r.store.now; history = r.entries.now } };
+    ghost view = { λ r. record { stored = r.store.now; history = R.history r.records.now } };
 
-    ghost invariant = { λ r. IsAtRest r.store.now r.entries.now × IsOpen r.entries.now ×
-        (R.known r.renders.now ≡ r.entries.now) };
+    ghost invariant = { λ r. IsAtRest r.store.now (R.history r.records.now) × IsOpen
+        (R.history r.records.now) };
 }
 
-impl<'a, R: Renders> AtRest<'a, R> {
-    /// The store, with the entries that led to it.
-    pub fn new(store: &'a Store, entries: &'a [Entry], renders: &'a R) -> AtRest<'a, R>
-        requires rests { IsAtRest store.now entries.now }
-        requires open_ { IsOpen entries.now }
-        requires known { R.known renders.now ≡ entries.now }
-        ensures { result ≡ record { stored = store.now; history = entries.now } }
+impl<'a, R: Records> AtRest<'a, R> {
+    /// The store, with what is recorded of its device.
+    pub fn new(store: &'a Store, records: &'a R) -> AtRest<'a, R>
+        requires rests { IsAtRest store.now (R.history records.now) }
+        requires may_follow { IsOpen (R.history records.now) }
+        ensures { result ≡ record { stored = store.now; history = R.history records.now } }
     {
-        AtRest {
-            store,
-            entries,
-            renders,
-        }
+        AtRest { store, records }
     }
 }
 
-impl<R: Renders> Objects for AtRest<'_, R> {
+impl<R: Records> Objects for AtRest<'_, R> {
     ghost objects = { λ r. scene_objects r.stored.state };
 
     fn kind(&self, h: Handle) -> Option<Kind> {
@@ -92,7 +88,7 @@ impl<R: Renders> Objects for AtRest<'_, R> {
     }
 }
 
-impl<R: Renders> Standing for AtRest<'_, R> {
+impl<R: Records> Standing for AtRest<'_, R> {
     ghost past = { past_of };
 
     fn is_legal(&self) {
@@ -111,7 +107,7 @@ impl<R: Renders> Standing for AtRest<'_, R> {
     }
 
     fn place(&self) -> u64 {
-        self.entries.len() as u64 + 1
+        self.records.place()
     }
 
     fn is_array_loan_out(&self, h: Handle, number: u64, len: usize) -> bool {
@@ -132,7 +128,7 @@ impl<R: Renders> Standing for AtRest<'_, R> {
     }
 
     fn shows(&self, h: Handle) -> Shown {
-        self.renders.shown(h, self.store.shows(h))
+        self.records.shown(h, self.store.shows(h))
     }
 
     ghost agrees = { λ r. refl };

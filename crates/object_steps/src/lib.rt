@@ -12,5 +12,5 @@ pub mod changes;
 pub mod lent_params;
 
 pub use array_loans::ArrayLoan;
-pub use at_rest::{AtRest, Renders};
+pub use at_rest::{AtRest, Records};
 pub use lent_params::LentParam;

@@ -5,4 +5,4 @@ use Rattle.object_steps.proofs.Standings.{led}
 use Rattle.object_steps.proofs.at_rest.AtRestStanding.is_legal.Goals as goal
 
 pub returns-clause-led : goal.returns-clause-led
-returns-clause-led g c = subst (λ (r : Rested). past_of r ≡ after r.history) c.self.view_is (led c.self.inside.store.now c.self.inside.entries.now c.self.invariant.0)
+returns-clause-led g c = subst (λ (r : Rested). past_of r ≡ after r.history) c.self.view_is (led c.self.inside.store.now _ c.self.invariant.0)
