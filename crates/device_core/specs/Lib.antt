@@ -1,3 +1,4 @@
 -- What the clauses of this crate cite.
+pub mod Ends
 pub mod Graves
 pub mod Holds

@@ -2,4 +2,5 @@
 #![tactic(auto)]
 
 mod burials;
+mod ends;
 mod holds;
