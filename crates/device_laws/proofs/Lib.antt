@@ -5,6 +5,7 @@ pub mod FlightSteps
 pub mod FlownFacts
 pub mod FutureFacts
 pub mod PhaseFacts
+pub mod RenderFacts
 pub mod ShowingFacts
 pub mod StandingFacts
 pub mod StandingSteps

@@ -1,5 +1,6 @@
 pub mod Changing
 pub mod FlightMoves
 pub mod Flown
+pub mod Renders
 pub mod Showings
 pub mod Standing
