@@ -3,6 +3,7 @@ pub mod ChangeFacts
 pub mod FlightFacts
 pub mod FlightSteps
 pub mod FlownFacts
+pub mod FrameFacts
 pub mod FutureFacts
 pub mod PhaseFacts
 pub mod RenderFacts
