@@ -7,7 +7,7 @@ use Rattle.std.specs.Option.{unwrap_or}
 use Rattle.std.specs.Ordering.{nat_cmp}
 use Rattle.std.proofs.lemmas.Bool.{cases_eq}
 use Rattle.dev_types.specs.Counting.{times}
-use Rattle.dev_types.proofs.SumLaws.{times-more, times-same}
+use Rattle.dev_types.proofs.SumLaws.{times-more, times-other, times-same}
 use Rattle.object_store.specs.Kept.{number_at}
 use Rattle.object_store.specs.Parts.{at}
 use Rattle.seq_model.proofs.Keys.{at_changed, at_unchanged}
@@ -76,3 +76,39 @@ held_least (k ∷ reach) holds h =
     let one = unhold_least holds h k in
     let parts : times h (k ∷ reach) ≡ times h (k ∷ []) + times h reach = times-more h k reach in
     omega (arith, rest, one, parts)
+
+-- and exactly once less, where flights hold it as often
+unhold_is : (holds : Holds) (h k : ℕ) → 1 ≤ number_at holds k → number_at (unhold holds k) h + times h (k ∷ []) ≡ number_at holds h
+unhold_is holds h k some = by (cases_eq h k)
+  where
+    here : (number_at (unhold holds k) k ≡ number_at holds k - 1) ⊎ (number_at (unhold holds k) k ≡ 0) × (number_at holds k ≡ 0) → number_at (unhold holds k) k + 1 ≡ number_at holds k
+    here (inl is) = omega (arith, is, some)
+    here (inr none) = let is = none.1 in absurd (omega (arith, is, some))
+
+    by : (h ≡ k) ⊎ (h ≡ k → ⊥) → number_at (unhold holds k) h + times h (k ∷ []) ≡ number_at holds h
+    by (inl same) =
+        let one : times k (k ∷ []) ≡ 1 + 0 = times-same k [] in
+        let less = here (set_here holds k (number_at holds k - 1)) in
+        subst (λ x. number_at (unhold holds k) x + times x (k ∷ []) ≡ number_at holds x) (sym same) (omega (arith, one, less))
+    by (inr apart) =
+        let is = set_there holds h k (number_at holds k - 1) apart in
+        let none : times h (k ∷ []) ≡ 0 = times-other h k [] (λ e. apart (sym e)) in
+        omega (arith, is, none)
+
+pub held_less_is : (reach : List ℕ) (holds : Holds) → ((k : ℕ) → times k reach ≤ number_at holds k) → (h : ℕ) → number_at (held_less reach holds) h + times h reach ≡ number_at holds h
+held_less_is [] holds held h = omega arith
+held_less_is (k ∷ reach) holds held h =
+    let one : times k (k ∷ reach) ≡ 1 + times k reach = times-same k reach in
+    let all = held k in
+    let some : 1 ≤ number_at holds k = omega (arith, one, all) in
+    let rest = held_less_is reach (unhold holds k) (still some) h in
+    let first = unhold_is holds h k some in
+    let parts : times h (k ∷ reach) ≡ times h (k ∷ []) + times h reach = times-more h k reach in
+    omega (arith, rest, first, parts)
+  where
+    still : 1 ≤ number_at holds k → (j : ℕ) → times j reach ≤ number_at (unhold holds k) j
+    still some j =
+        let all = held j in
+        let first = unhold_is holds j k some in
+        let parts : times j (k ∷ reach) ≡ times j (k ∷ []) + times j reach = times-more j k reach in
+        omega (arith, all, first, parts)

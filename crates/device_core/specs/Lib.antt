@@ -2,3 +2,4 @@
 pub mod Ends
 pub mod Graves
 pub mod Holds
+pub mod AllParts

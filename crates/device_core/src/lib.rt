@@ -3,4 +3,11 @@
 
 mod burials;
 mod ends;
+mod graves;
 mod holds;
+mod loads;
+mod parts;
+
+pub use graves::Grave;
+pub use loads::Load;
+pub use parts::Parts;

@@ -1,0 +1,55 @@
+-- What contracts see of the parts of a device, and what always holds of them.
+use Rattle.std.specs.Prelude.{◌≡◌, ℕ, if◌then◌else◌}
+use Rattle.std.specs.List.{AllByRecursion}
+use Rattle.dev_types.specs.Counting.{times}
+use Rattle.flight_books.specs.Kept.{Books}
+use Rattle.flight_books.specs.declared.kept.Cargo.{Cargo}
+use Rattle.fx_math.specs.declared.scene.Scene.{Scene}
+use Rattle.kept_worlds.specs.KeptMaps.{Worlds, reach_at, shown_at}
+use Rattle.kept_worlds.specs.LastKept.{AreKept, AreShown, is_there}
+use Rattle.object_store.specs.Kept.{Stored}
+use Rattle.object_steps.specs.Resting.{IsAtRest}
+use Rattle.picture_model.specs.Limits.{IsSceneWithin}
+use Rattle.seq_model.specs.Builds.{builds}
+use Rattle.seq_model.specs.Histories.{History}
+use Rattle.seq_model.specs.Pictures.{scene_at}
+use Rattle.seq_model.specs.Steps.{after, is_reached_by}
+use Rattle.world_laws.specs.Alike.{Shown}
+use Rattle.world_snapshot.specs.Views.{scene_shown}
+use Rattle.world_snapshot.specs.Worlds.{World}
+use Rattle.device_laws.specs.Flown.{Flown, LetsNotes, runs_of}
+use Rattle.device_core.specs.declared.loads.Load.{Load}
+
+-- the objects, the flights with what is kept of each, the worlds that are kept, all that happened, and how many worlds were prepared
+pub record Inside : Type 0 where
+  pub objects : Stored
+  pub flights : Books Load
+  pub worlds : Worlds World
+  pub history : History
+  pub builds : ℕ
+
+-- the scene that a flight renders
+abbrev pub scene_of_load : Load → Scene
+scene_of_load l = scene_shown l.prepared l.view
+
+-- what a prepared world shows
+abbrev pub shown_by : World → Shown
+shown_by w = record { primitives = w.primitives; lights = w.lights }
+
+-- what is kept with a flight is each object that its render reached, once, and its scene is that of the render, within the limits of pictures
+pub record IsLoaded (history : History) (c : Cargo Load) : Type 0 where
+  pub reach : (h : ℕ) → times h c.kept.reach.items ≡ (if is_reached_by (after history).reached c.ticket h then 1 else 0)
+  pub scene : scene_of_load c.kept ≡ scene_at history c.ticket
+  pub within : IsSceneWithin (scene_of_load c.kept)
+
+-- What always holds: the objects rest where the history led, the flights are those of the history, each loaded as at its render, and a note may
+-- follow; exactly the worlds are kept that are there and untouched since their last render, each as it would be prepared now; and the builds are
+-- counted
+pub record AreParts (i : Inside) : Type 0 where
+  pub rest : IsAtRest i.objects i.history
+  pub flown : Flown i.history (runs_of i.flights.future.flights)
+  pub loaded : AllByRecursion (IsLoaded i.history) i.flights.cargo
+  pub lets : LetsNotes i.history
+  pub kept : AreKept (is_there i.history) i.history (reach_at i.worlds)
+  pub shown : AreShown i.history (shown_at shown_by i.worlds)
+  pub built : i.builds ≡ builds i.history

@@ -1,0 +1,28 @@
+//! The parts of a device between two entries.
+use crate::loads::Load;
+use flight_books::FlightBooks;
+use kept_worlds::KeptWorlds;
+use object_store::store::Store;
+use seq_model::Entry;
+use std::marker::Model;
+use world_snapshot::Prepared;
+
+/// The objects, the flights and the kept worlds of a device, and all that happened.
+#[derive(Drop)]
+pub struct Parts {
+    pub(crate) objects: Store,
+    pub(crate) flights: FlightBooks<Load>,
+    pub(crate) worlds: KeptWorlds<Prepared>,
+    pub(crate) journal: Vec<Entry>,
+    pub(crate) builds: u64,
+}
+
+impl Model for Parts {
+    ghost use Rattle.device_core.specs.AllParts.{AreParts, Inside as Insides};
+
+    ghost Value = { Insides };
+
+    ghost view = { λ p. record { objects = p.objects; flights = p.flights; worlds = p.worlds; history = p.journal.items; builds = p.builds } };
+
+    ghost invariant = { λ p. AreParts (record { objects = p.objects; flights = p.flights; worlds = p.worlds; history = p.journal.items; builds = p.builds }) };
+}
