@@ -20,12 +20,14 @@ use Rattle.world_snapshot.specs.Worlds.{World}
 use Rattle.device_laws.specs.Flown.{Flown, LetsNotes, runs_of}
 use Rattle.device_core.specs.declared.loads.Load.{Load}
 
--- the objects, the flights with what is kept of each, the worlds that are kept, all that happened, and how many worlds were prepared
+-- the objects, the flights with what is kept of each, the worlds that are kept, all that happened, for how many entries there is room, and how
+-- many worlds were prepared
 pub record Inside : Type 0 where
   pub objects : Stored
   pub flights : Books Load
   pub worlds : Worlds World
   pub history : History
+  pub room : ℕ
   pub builds : ℕ
 
 -- the scene that a flight renders

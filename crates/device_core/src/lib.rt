@@ -6,6 +6,7 @@ mod ends;
 mod graves;
 mod holds;
 mod loads;
+mod notes;
 mod parts;
 
 pub use graves::Grave;

@@ -18,11 +18,12 @@ pub struct Parts {
 }
 
 impl Model for Parts {
+    ghost use Rattle.std.specs.Prelude.{vec_capacity};
     ghost use Rattle.device_core.specs.AllParts.{AreParts, Inside as Insides};
 
     ghost Value = { Insides };
 
-    ghost view = { λ p. record { objects = p.objects; flights = p.flights; worlds = p.worlds; history = p.journal.items; builds = p.builds } };
+    ghost view = { λ p. record { objects = p.objects; flights = p.flights; worlds = p.worlds; history = p.journal.items; room = vec_capacity p.journal; builds = p.builds } };
 
-    ghost invariant = { λ p. AreParts (record { objects = p.objects; flights = p.flights; worlds = p.worlds; history = p.journal.items; builds = p.builds }) };
+    ghost invariant = { λ p. AreParts (record { objects = p.objects; flights = p.flights; worlds = p.worlds; history = p.journal.items; room = vec_capacity p.journal; builds = p.builds }) };
 }

@@ -14,7 +14,7 @@ mod names;
 mod stops;
 mod work;
 
-pub use books::FlightBooks;
+pub use books::{FlightBooks, note_of};
 pub use kept::{Cargo, Over};
 pub use laws::{
     a_begun_flight_reads_nothing, a_given_flight_ends, a_sweep_keeps_pairs,
