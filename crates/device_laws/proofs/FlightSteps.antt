@@ -117,7 +117,7 @@ quiet_call history actor k call r same stopped =
     ∙ ap (λ b. is_flying (after history).state k || b) stopped
     ∙ sym (flights_have (after history).state k)
 
-lends : (f h : ℕ) (change : List (Channel × ℕ) → List (Channel × ℕ)) (x : Showing) → (cond (f == h) (with_channels change x) x).phase ≡ x.phase
+pub lends : (f h : ℕ) (change : List (Channel × ℕ) → List (Channel × ℕ)) (x : Showing) → (cond (f == h) (with_channels change x) x).phase ≡ x.phase
 lends f h change x = by (f == h)
   where
     by : (b : Bool) → (cond b (with_channels change x) x).phase ≡ x.phase

@@ -33,7 +33,7 @@ pub weaker : {X : Type 0} (P Q : X → Type 0) (xs : List X) → ((x : X) → P 
 weaker P Q [] f all = tt
 weaker P Q (x ∷ xs) f all = (f x all.0, weaker P Q xs f all.1)
 
-joined : {X : Type 0} (P : X → Type 0) (xs ys : List X) → AllByRecursion P xs → AllByRecursion P ys → AllByRecursion P (xs ++ ys)
+pub joined : {X : Type 0} (P : X → Type 0) (xs ys : List X) → AllByRecursion P xs → AllByRecursion P ys → AllByRecursion P (xs ++ ys)
 joined P [] ys first second = second
 joined P (x ∷ xs) ys first second = (first.0, joined P xs ys first.1 second)
 
@@ -45,7 +45,7 @@ pub middle : {X : Type 0} (P : X → Type 0) (xs : List X) (x : X) (ys : List X)
 middle P [] x ys all = all.0
 middle P (z ∷ xs) x ys all = middle P xs x ys all.1
 
-mapped : {X Y : Type 0} (P : Y → Type 0) (f : X → Y) (xs : List X) → AllByRecursion (λ x. P (f x)) xs → AllByRecursion P (map f xs)
+pub mapped : {X Y : Type 0} (P : Y → Type 0) (f : X → Y) (xs : List X) → AllByRecursion (λ x. P (f x)) xs → AllByRecursion P (map f xs)
 mapped P f [] all = tt
 mapped P f (x ∷ xs) all = (all.0, mapped P f xs all.1)
 
@@ -75,7 +75,7 @@ flies_same place (Finished u) t flew none = absurd cc
 flies_same place (Left u) t flew none = absurd cc
 flies_same place e t flew none = refl
 
-stops_same : (past : Past) (e : Entry) (t : ℕ) → moves_flights e ≡ false → stopped_after past e t ≡ has t past.state.stopped
+pub stops_same : (past : Past) (e : Entry) (t : ℕ) → moves_flights e ≡ false → stopped_after past e t ≡ has t past.state.stopped
 stops_same past (Called actor (DiscardFrame f) reply.Done) t none = absurd cc
 stops_same past (Called actor (Retain k) r) t none = refl
 stops_same past (Left u) t none = absurd cc

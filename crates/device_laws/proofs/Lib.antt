@@ -3,6 +3,9 @@ pub mod ChangeFacts
 pub mod FlightFacts
 pub mod FlightSteps
 pub mod FlownFacts
+pub mod FutureFacts
 pub mod PhaseFacts
 pub mod ShowingFacts
+pub mod StandingFacts
+pub mod StandingSteps
 pub mod SweepFacts

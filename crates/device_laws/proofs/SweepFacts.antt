@@ -18,11 +18,10 @@ use Rattle.seq_model.specs.Legal.{Legal, is_called, is_flying}
 use Rattle.seq_model.specs.Life.{has}
 use Rattle.seq_model.specs.State.{flights}
 use Rattle.seq_model.specs.Steps.{after}
-use Rattle.seq_model.specs.declared.calls.Entry.{Entry}
 use Rattle.seq_model.specs.declared.calls.Entry.TheVariants.{Finished, Left}
 use Rattle.device_laws.proofs.FlightSteps.{flights_by, stops_after}
 use Rattle.device_laws.proofs.FlownFacts.{middle, run_over, weaker, without_middle}
-use Rattle.device_laws.specs.Flown.{Flown, IsNoted, IsRun, LetsNotes, Run, run_of, runs_of, tickets_in}
+use Rattle.device_laws.specs.Flown.{Flown, IsNoted, IsRun, LetsNotes, Run, note_of_run, run_of, runs_of, tickets_in}
 
 -- each number stands once
 abbrev AreApart : List ℕ → Type 0
@@ -77,12 +76,8 @@ tickets_without k xs t ys apart = by (t == k) refl
     by true is = sym apart ∙ ap (λ k. has k (xs ++ ys)) (eqb-true t k is)
     by false is = has_joined k xs (t ∷ ys) ∙ ap (λ b. has k xs || (b || has k ys)) is ∙ sym (has_joined k xs ys)
 
--- the note of a run
-abbrev note : Run → Entry
-note r = cond r.stopped (Left r.ticket) (Finished r.ticket)
-
 -- a run flies, or was stopped; and where no note of the history stopped it, it flies
-run_flies : (history : History) (done : List Run) (r : Run) (rest : List Run) → Flown history (done ++ r ∷ rest) → has r.ticket (flights (after history).state) ≡ true
+pub run_flies : (history : History) (done : List Run) (r : Run) (rest : List Run) → Flown history (done ++ r ∷ rest) → has r.ticket (flights (after history).state) ≡ true
 run_flies history done r rest flown =
     flown.tickets r.ticket ∙ ap (has r.ticket) (map-append (λ (r : Run). r.ticket) done (r ∷ rest)) ∙ has_joined r.ticket (tickets_in done) (r.ticket ∷ tickets_in rest)
     ∙ or_right (has r.ticket (tickets_in done)) ((r.ticket == r.ticket) || has r.ticket (tickets_in rest)) (or_left (r.ticket == r.ticket) (has r.ticket (tickets_in rest)) (eq-eqb r.ticket r.ticket refl))
@@ -91,8 +86,8 @@ is_note : (t : ℕ) (b : Bool) → is_called (cond b (Left t) (Finished t)) ≡ 
 is_note t true = refl
 is_note t false = refl
 
-note_is_legal : (history : History) (done : List Run) (r : Run) (rest : List Run) → Legal history → LetsNotes history → Flown history (done ++ r ∷ rest) → Legal (history ++ note r ∷ [])
-note_is_legal history done r rest legal lets flown = by r.stopped refl (lets (note r) (is_note r.ticket r.stopped))
+note_is_legal : (history : History) (done : List Run) (r : Run) (rest : List Run) → Legal history → LetsNotes history → Flown history (done ++ r ∷ rest) → Legal (history ++ note_of_run r ∷ [])
+note_is_legal history done r rest legal lets flown = by r.stopped refl (lets (note_of_run r) (is_note r.ticket r.stopped))
   where
     run : IsRun history r
     run = middle (IsRun history) done r rest flown.each
@@ -124,8 +119,8 @@ note_lets history t b lets next quiet = follow_more history (cond b (Left t) (Fi
     by false = refl
     by true = or_right (has t (after history).state.stopped) (not (is_called next)) (ap not quiet)
 
-note_flown : (history : History) (done : List Run) (r : Run) (rest : List Run) → Legal (history ++ note r ∷ []) → has r.ticket (tickets_in (done ++ rest)) ≡ false → Flown history (done ++ r ∷ rest) →
-    Flown (history ++ note r ∷ []) (done ++ rest)
+note_flown : (history : History) (done : List Run) (r : Run) (rest : List Run) → Legal (history ++ note_of_run r ∷ []) → has r.ticket (tickets_in (done ++ rest)) ≡ false → Flown history (done ++ r ∷ rest) →
+    Flown (history ++ note_of_run r ∷ []) (done ++ rest)
 note_flown history done r rest legal apart flown = by r.stopped legal
   where
     tickets : (k : ℕ) → (not (r.ticket == k) && has k (flights (after history).state)) ≡ has k (tickets_in (done ++ rest))
@@ -173,22 +168,22 @@ swept history done (f ∷ fs) (r ∷ reads) read apart now =
     by true ended passed =
         let parts : (has f.ticket (tickets_in done ++ tickets_in (runs_of fs)) ≡ false) × AreApart (tickets_in done ++ tickets_in (runs_of fs)) =
         apart_middle (tickets_in done) f.ticket (tickets_in (runs_of fs)) (subst AreApart (map-append (λ (r : Run). r.ticket) done (run_of f ∷ runs_of fs)) apart) in
-        let legal : Legal (history ++ note (run_of f) ∷ []) = note_is_legal history done (run_of f) (runs_of fs) now.legal now.lets now.flown in
-        let next : IsNoted (history ++ note (run_of f) ∷ []) (done ++ runs_of fs) =
+        let legal : Legal (history ++ note_of_run (run_of f) ∷ []) = note_is_legal history done (run_of f) (runs_of fs) now.legal now.lets now.flown in
+        let next : IsNoted (history ++ note_of_run (run_of f) ∷ []) (done ++ runs_of fs) =
         record {
           legal = legal;
           lets = note_lets history f.ticket (is_stopped f) now.lets;
           flown = note_flown history done (run_of f) (runs_of fs) legal (ap (has f.ticket) (map-append (λ (r : Run). r.ticket) done (runs_of fs)) ∙ parts.0) now.flown;
         } in
-        subst (λ h. IsNoted h (done ++ runs_of (left_by fs reads))) (append_assoc history (note (run_of f) ∷ []) (notes_of fs reads))
-        (ended (history ++ note (run_of f) ∷ []) (subst AreApart (sym (map-append (λ (r : Run). r.ticket) done (runs_of fs))) parts.1) next)
+        subst (λ h. IsNoted h (done ++ runs_of (left_by fs reads))) (append_assoc history (note_of_run (run_of f) ∷ []) (notes_of fs reads))
+        (ended (history ++ note_of_run (run_of f) ∷ []) (subst AreApart (sym (map-append (λ (r : Run). r.ticket) done (runs_of fs))) parts.1) next)
     by false ended passed =
         subst (λ runs. IsNoted (history ++ notes_of fs reads) runs) (append_assoc done (run_of f ∷ []) (runs_of (left_by fs reads)))
         (passed (subst (λ runs. AreApart (tickets_in runs)) (sym (append_assoc done (run_of f ∷ []) (runs_of fs))) apart)
         (subst (IsNoted history) (sym (append_assoc done (run_of f ∷ []) (runs_of fs))) now))
 
 -- the tickets of flights and of their runs
-tickets_of_runs : (fs : List Flying) → tickets_in (runs_of fs) ≡ map (λ f. f.ticket) fs
+pub tickets_of_runs : (fs : List Flying) → tickets_in (runs_of fs) ≡ map (λ f. f.ticket) fs
 tickets_of_runs [] = refl
 tickets_of_runs (f ∷ fs) = ap (λ ts. f.ticket ∷ ts) (tickets_of_runs fs)
 
@@ -196,3 +191,9 @@ pub sweep_notes : (history : History) (fs : List Flying) (reads : List ℕ) → 
     IsNoted (history ++ notes_of fs reads) (runs_of (left_by fs reads))
 sweep_notes history fs reads legal lets rising read flown =
     swept history [] fs reads read (subst AreApart (sym (tickets_of_runs fs)) (rising_apart (map (λ f. f.ticket) fs) rising)) (record { legal = legal; lets = lets; flown = flown })
+
+pub one_noted : (history : History) (done : List Run) (r : Run) (rest : List Run) → Legal history → LetsNotes history → has r.ticket (tickets_in (done ++ rest)) ≡ false → Flown history (done ++ r ∷ rest) →
+    IsNoted (history ++ note_of_run r ∷ []) (done ++ rest)
+one_noted history done r rest legal lets apart flown =
+    let noted : Legal (history ++ note_of_run r ∷ []) = note_is_legal history done r rest legal lets flown in
+    record { legal = noted; lets = note_lets history r.ticket r.stopped lets; flown = note_flown history done r rest noted apart flown }

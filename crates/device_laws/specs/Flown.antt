@@ -9,6 +9,7 @@ use Rattle.seq_model.specs.Life.{has}
 use Rattle.seq_model.specs.State.{flights}
 use Rattle.seq_model.specs.Steps.{after}
 use Rattle.seq_model.specs.declared.calls.Entry.{Entry}
+use Rattle.seq_model.specs.declared.calls.Entry.TheVariants.{Finished, Left}
 
 -- a flight by its ticket, its frame, and whether it was stopped: what no look at it, no seat of it and no lending of it changes
 pub record Run : Type 0 where
@@ -33,6 +34,10 @@ stopped_run frame r = if r.frame == frame then record { ticket = r.ticket; frame
 abbrev pub stopped_runs : ℕ → List Run → List Run
 stopped_runs frame runs = map (stopped_run frame) runs
 
+-- the note of a run that ends
+abbrev pub note_of_run : Run → Entry
+note_of_run r = if r.stopped then Left r.ticket else Finished r.ticket
+
 -- the run began by a render of its frame; where its flight was stopped in the history, it was stopped. It may be stopped before a note of the
 -- history tells that: that is how a device ends
 pub record IsRun (history : History) (r : Run) : Type 0 where
@@ -48,7 +53,7 @@ pub record Flown (history : History) (runs : List Run) : Type 0 where
 abbrev pub LetsNotes : History → Type 0
 LetsNotes history = (note : Entry) → is_called note ≡ false → let_follow history note ≡ true
 
--- after the notes of a sweep: they may stand there, others may follow, and these are the runs that are left
+-- after notes of flights that ended: they may stand there, others may follow, and these are the runs that are left
 pub record IsNoted (history : History) (runs : List Run) : Type 0 where
   pub legal : Legal history
   pub lets : LetsNotes history

@@ -5,7 +5,7 @@ ghost use Rattle.dev_types.specs.declared.data_types.DataType.{DataType};
 ghost use Rattle.dev_types.specs.declared.handles.Channel.{Channel};
 ghost use Rattle.flight_books.specs.Sweeps.{notes_of};
 ghost use Rattle.frame_future.specs.Flights.{Flying};
-ghost use Rattle.frame_future.specs.Future.{Rising};
+ghost use Rattle.frame_future.specs.Future.{Finished, Future, IsDiscarded, IsKept, Rising, flight_of, phase_of};
 ghost use Rattle.frame_future.specs.Reads.{AreRead, left_by};
 ghost use Rattle.past_laws.specs.Worlds.{render_of};
 ghost use Rattle.seq_model.specs.Histories.{History, frame_at};
@@ -19,7 +19,8 @@ ghost use Rattle.seq_model.specs.declared.calls.Entry.{Entry};
 ghost use Rattle.seq_model.specs.declared.calls.Entry.TheVariants.{Called};
 ghost use Rattle.seq_model.specs.declared.calls.Reply.TheVariants as reply;
 ghost use Rattle.device_laws.specs.FlightMoves.{moves_flights};
-ghost use Rattle.device_laws.specs.Flown.{Flown, IsNoted, LetsNotes, Run, runs_of, stopped_runs};
+ghost use Rattle.device_laws.specs.Flown.{Flown, IsNoted, LetsNotes, Run, note_of_run, runs_of, stopped_runs, tickets_in};
+ghost use Rattle.device_laws.specs.Standing.{AreLeft, LeavesPictures, Standing, other_pictures, phase_as, pictures_left};
 
 /// A render that was done begins one flight, whose ticket is its place; its frame is then in flight.
 pub fn renders_begin_a_flight()
@@ -33,20 +34,52 @@ pub fn renders_begin_a_flight()
         → Legal (history ++ render_of actor f ∷ [])
         → Flown history runs
         → Flown (history ++ render_of actor f ∷ []) (runs ++ record { ticket = length history + 1; frame = f; stopped = false } ∷ []) }
+    ensures stands { (history : History) (actor f : ℕ) (left : ℕ → Bool) (runs : List Run) (pictures : List Finished)
+        → AreLeft history (render_of actor f) left
+        → Standing history runs pictures
+        → Standing (history ++ render_of actor f ∷ [])
+        (runs ++ record { ticket = length history + 1; frame = f; stopped = false } ∷ [])
+        (pictures_left left (other_pictures f pictures)) }
 {}
 
-/// A discard that was done stops the flight of its frame, which flies on until its note.
+/// A discard that was done stops the flight of its frame, which flies on until its note, or drops the
+/// frame's picture; and that is what a discard of kept frames makes of them.
 pub fn discards_stop_a_flight()
-    ensures { (history : History) (actor f : ℕ) (runs : List Run)
+    ensures flown { (history : History) (actor f : ℕ) (runs : List Run)
         → Legal (history ++ Called actor (DiscardFrame f) reply.Done ∷ [])
         → Flown history runs
         → Flown (history ++ Called actor (DiscardFrame f) reply.Done ∷ []) (stopped_runs f runs) }
+    ensures stands { (history : History) (actor f : ℕ) (left : ℕ → Bool) (runs : List Run) (pictures : List Finished)
+        → AreLeft history (Called actor (DiscardFrame f) reply.Done) left
+        → Flown history runs
+        → Standing history runs pictures
+        → Standing (history ++ Called actor (DiscardFrame f) reply.Done ∷ []) (stopped_runs f runs)
+        (pictures_left left (other_pictures f pictures)) }
+    ensures kept { (f : ℕ) (old new : Future)
+        → IsKept old
+        → IsDiscarded f old new (flight_of old f)
+        → (runs_of new.flights ≡ stopped_runs f (runs_of old.flights))
+        × (new.pictures ≡ other_pictures f old.pictures) }
 {}
 
-/// A sweep notes the flights that it ends, one after the other. The notes may stand there, others may
-/// follow them, and the flights that the sweep leaves are those of the history then.
+/// The note of a flight may stand behind a history, others may follow it, and the other flights are
+/// those of the history then. Where the flight was not stopped, its frame shows its picture, if the
+/// frame is left. So a sweep notes the flights that it ends, one after the other.
 pub fn notes_end_a_flight()
-    ensures { (history : History) (fs : List Flying) (reads : List ℕ)
+    ensures one { (history : History) (before : List Run) (r : Run) (behind : List Run)
+        → Legal history
+        → LetsNotes history
+        → has r.ticket (tickets_in (before ++ behind)) ≡ false
+        → Flown history (before ++ r ∷ behind)
+        → IsNoted (history ++ note_of_run r ∷ []) (before ++ behind) }
+    ensures stands { (history : History) (before : List Run) (r : Run) (behind : List Run) (left : ℕ → Bool) (pictures ended : List Finished)
+        → has r.ticket (tickets_in (before ++ behind)) ≡ false
+        → LeavesPictures r ended
+        → AreLeft history (note_of_run r) left
+        → Flown history (before ++ r ∷ behind)
+        → Standing history (before ++ r ∷ behind) pictures
+        → Standing (history ++ note_of_run r ∷ []) (before ++ behind) (pictures_left left (pictures ++ ended)) }
+    ensures sweep { (history : History) (fs : List Flying) (reads : List ℕ)
         → Legal history
         → LetsNotes history
         → Rising (map (λ f. f.ticket) fs)
@@ -55,13 +88,27 @@ pub fn notes_end_a_flight()
         → IsNoted (history ++ notes_of fs reads) (runs_of (left_by fs reads)) }
 {}
 
-/// Every other entry leaves the flights as they are.
+/// Every other entry leaves the flights as they are, and the pictures of the frames that it leaves.
 pub fn other_entries_keep_the_flights()
-    ensures { (history : History) (e : Entry) (runs : List Run)
+    ensures flown { (history : History) (e : Entry) (runs : List Run)
         → Legal (history ++ e ∷ [])
         → moves_flights e ≡ false
         → Flown history runs
         → Flown (history ++ e ∷ []) runs }
+    ensures stands { (history : History) (e : Entry) (left : ℕ → Bool) (runs : List Run) (pictures : List Finished)
+        → moves_flights e ≡ false
+        → AreLeft history e left
+        → Standing history runs pictures
+        → Standing (history ++ e ∷ []) runs (pictures_left left pictures) }
+{}
+
+/// Where what is kept of frames stands as the history says, each frame is in flight, done or neither
+/// as the history says.
+pub fn kept_phases_are_those_of_the_history()
+    ensures { (history : History) (future : Future) (h : ℕ)
+        → Flown history (runs_of future.flights)
+        → Standing history (runs_of future.flights) future.pictures
+        → phase_at (after history) h ≡ phase_as (phase_of future h) }
 {}
 
 /// A flight that was not stopped is what the frame of its render shows.
