@@ -21,7 +21,8 @@ place_found p (x ∷ fs) f is = by (either (p x)) (place_found p fs f)
     by (inl hit) deeper = (0, sym (ap (λ b. cond b (Some x) (find p fs)) hit) ∙ is)
     by (inr miss) deeper = let rest = deeper (sym (ap (λ b. cond b (Some x) (find p fs)) miss) ∙ is) in (suc rest.0, rest.1)
 
--- where another is put in the place of the first that passes, and passes itself, it is found there; and put again, it is as if at once
+-- where another is put in the place of the first that passes, and passes itself, it is found there;
+-- and put again, it is as if at once
 found_put : (p : Flying → Bool) (fs : List Flying) (f g : Flying) → find p fs ≡ Some f → p g ≡ true → find p (replaced p g fs) ≡ Some g
 found_put p [] f g is hit = absurd (none-some f is)
 found_put p (x ∷ fs) f g is hit = by (p x) refl (λ rest. found_put p fs f g rest hit)

@@ -135,6 +135,12 @@ all_halted (o ∷ os) (n ∷ ns) halting stopped = (by (is_stopped o) refl halti
     by false is (inl kept) = absurd (true≢false (sym stopped.0 ∙ ap is_stopped kept ∙ is))
     by false is (inr stop) = stop.1
 
+halted_count : (os ns : List Flying) → AreHalting os ns → length ns ≡ length os
+halted_count [] [] halting = refl
+halted_count [] (n ∷ ns) halting = absurd halting
+halted_count (o ∷ os) [] halting = absurd halting
+halted_count (o ∷ os) (n ∷ ns) halting = ap suc (halted_count os ns halting.1)
+
 pub none_halting : (fs : List Flying) → AreHalting fs fs
 none_halting [] = tt
 none_halting (f ∷ fs) = (inl refl, none_halting fs)
@@ -200,7 +206,7 @@ module _ {T : Type 0} where
   all_stopped old now of halting none pictures cargo over =
       let all : AllByRecursion (λ (f : Flying). is_stopped f ≡ true) now.future.flights = recursion_from_All (λ (f : Flying). is_stopped f ≡ true) now.future.flights (λ i d l.
       by i (get_or now.future.flights i d) (slice_get-get_or now.future.flights i d l)) in
-      record { flights = all_halted old.future.flights now.future.flights halting all; stopped = all; pictures = pictures; cargo = cargo; over = over }
+      record { flights = all_halted old.future.flights now.future.flights halting all; stopped = all; count = halted_count old.future.flights now.future.flights halting; pictures = pictures; cargo = cargo; over = over }
     where
       by : (i : ℕ) (f : Flying) → slice_get now.future.flights i ≡ Some f → is_stopped f ≡ true
       by i f at =

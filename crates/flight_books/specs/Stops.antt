@@ -1,5 +1,5 @@
 -- All flights are stopped.
-use Rattle.std.specs.Prelude.{⊤, ◌≡◌, ◌⊎◌, ℕ, ◌<◌, Bool, true, false, List, [], ◌∷◌, Option, Some, None, slice_index_or}
+use Rattle.std.specs.Prelude.{⊤, ◌≡◌, ◌⊎◌, ℕ, ◌<◌, Bool, true, false, List, [], ◌∷◌, Option, Some, None, length, slice_index_or}
 use Rattle.std.specs.List.{AllByRecursion, slice_get}
 use Rattle.frame_future.specs.Flights.{Flying, is_stopped}
 use Rattle.frame_future.specs.Future.{Future, flight_of, with_flight_of, IsStop}
@@ -22,6 +22,7 @@ AreHalted (f ∷ fs) (g ∷ gs) = HaltsBy (is_stopped f) f g × AreHalted fs gs
 pub record StopsAll {T : Type 0} (old new : Books T) : Type 0 where
   pub flights : AreHalted old.future.flights new.future.flights
   pub stopped : AllByRecursion (λ f. is_stopped f ≡ true) new.future.flights
+  pub count : length new.future.flights ≡ length old.future.flights
   pub pictures : new.future.pictures ≡ old.future.pictures
   pub cargo : new.cargo ≡ old.cargo
   pub over : new.over ≡ old.over

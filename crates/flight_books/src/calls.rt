@@ -15,14 +15,16 @@ use std::mem;
 use tile_claims::{Claims, Seat};
 
 impl<T> FlightBooks<T> {
-    /// Lends a channel of the frame's picture under this number, as [`Frames::map`](frame_future::Frames::map) does.
+    /// Lends a channel of the frame's picture under this number, as
+    /// [`Frames::map`](frame_future::Frames::map) does.
     ///
     /// # Errors
     ///
-    /// The first of these that applies, and nothing has changed: `InFlight` exactly where the frame is in flight, with what the last
-    /// look read as given and how many given tiles the flight waits for; `NoPicture` exactly where it has neither flight nor picture;
-    /// `ChannelMapped` exactly where the channel is mapped; `NoChannel` exactly where it was not asked for; else `NoMemory`, where
-    /// there is none.
+    /// The first of these that applies, and nothing has changed: `InFlight` exactly where the frame
+    /// is in flight, with what the last look read as given and how many given tiles the flight
+    /// waits for; `NoPicture` exactly where it has neither flight nor picture; `ChannelMapped`
+    /// exactly where the channel is mapped; `NoChannel` exactly where it was not asked for; else
+    /// `NoMemory`, where there is none.
     pub fn map(
         &mut self,
         alloc: Global,
@@ -31,10 +33,15 @@ impl<T> FlightBooks<T> {
         number: u64,
     ) -> Result<MappedFrame, Refused>
         requires { IfSome (flight_of self.old.future frame) (λ f. f.looked < awaited f) }
-        ensures refused { IfSome (refusal_of_map self.old.future frame channel) (λ e. result ≡ Err e) }
-        ensures causes { IfErr result (λ e. (refusal_of_map self.old.future frame channel ≡ Some e) ⊎ ((refusal_of_map self.old.future frame channel ≡ None) × (e ≡ refused.NoMemory))) }
-        ensures loan { IfOk result (λ m. IsSomeAnd (shown_by self.old.future frame) (λ p. m ≡ loan_from p channel number)) }
-        ensures lent { OnOk result (IsSomeAnd (shown_by self.old.future frame) (λ p. self.new ≡ with_future self.old (with_picture self.old.future (lent_as p channel number)))) }
+        ensures refused { IfSome (refusal_of_map self.old.future frame channel)
+            (λ e. result ≡ Err e) }
+        ensures causes { IfErr result
+            (λ e. (refusal_of_map self.old.future frame channel ≡ Some e)
+            ⊎ ((refusal_of_map self.old.future frame channel ≡ None) × (e ≡ refused.NoMemory))) }
+        ensures loan { IfOk result (λ m. IsSomeAnd (shown_by self.old.future frame)
+            (λ p. m ≡ loan_from p channel number)) }
+        ensures lent { OnOk result (IsSomeAnd (shown_by self.old.future frame) (λ p. self.new
+            ≡ with_future self.old (with_picture self.old.future (lent_as p channel number)))) }
         ensures unchanged { OnErr result (self.new ≡ self.old) }
     {
         let _kept = &self.cargo;
@@ -48,7 +55,8 @@ impl<T> FlightBooks<T> {
     /// `NotMapped` exactly where this loan is not out. It comes back, and nothing has changed.
     pub fn unmap(&mut self, frame: MappedFrame) -> Result<(), (Refused, MappedFrame)>
         ensures out { IsOk result ↔ IsOut self.old.future frame }
-        ensures ended { OnOk result (IsSomeAnd (shown_by self.old.future frame.frame) (λ p. self.new ≡ with_future self.old (with_picture self.old.future (given_back p frame.channel)))) }
+        ensures ended { OnOk result (IsSomeAnd (shown_by self.old.future frame.frame) (λ p. self.new
+            ≡ with_future self.old (with_picture self.old.future (given_back p frame.channel)))) }
         ensures refused { IfErr result (λ e. (e.0 ≡ refused.NotMapped) × (e.1 ≡ frame)) }
         ensures unchanged { OnErr result (self.new ≡ self.old) }
     {
@@ -56,8 +64,8 @@ impl<T> FlightBooks<T> {
         self.frames.unmap(frame)
     }
 
-    /// Ends the loan of a channel of the frame's picture, whoever holds what was lent of it. Nothing changes where the frame is not
-    /// done, or the channel is not mapped.
+    /// Ends the loan of a channel of the frame's picture, whoever holds what was lent of it.
+    /// Nothing changes where the frame is not done, or the channel is not mapped.
     pub fn end_loan(&mut self, frame: Handle, channel: Channel)
         ensures { self.new ≡ with_future self.old (loan_ended self.old.future frame channel) }
     {
@@ -73,32 +81,42 @@ impl<T> FlightBooks<T> {
         self.frames.forget(frame);
     }
 
-    /// How many tiles of the flight with this ticket are claimed, by a look: at most all. Where no seat of it was handed out, it is how
-    /// many its first seat claimed.
+    /// How many tiles of the flight with this ticket are claimed, by a look: at most all. Where no
+    /// seat of it was handed out, it is how many its first seat claimed.
     pub fn claimed(&mut self, ticket: u64) -> u64
         requires { IsSomeAnd (flight_at self.old.future ticket) (λ f. f.home ≡ true) }
-        ensures counted { IfSome (flight_at self.old.future ticket) (λ f. (g : Flying) × IsCount f g result × (self.new ≡ with_future self.old (with_flight_at self.old.future ticket g))) }
+        ensures counted { IfSome (flight_at self.old.future ticket)
+            (λ f. (g : Flying) × IsCount f g result
+            × (self.new ≡ with_future self.old (with_flight_at self.old.future ticket g))) }
         ensures home { AreHome self.old.future → AreHome self.new.future }
     {
         let _kept = &self.cargo;
         self.frames.claimed(ticket)
     }
 
-    /// Takes the claims of the flight with this ticket, which was not stopped, with their first seat, until [`FlightBooks::put_back`].
+    /// Takes the claims of the flight with this ticket, which was not stopped, with their first
+    /// seat, until [`FlightBooks::put_back`].
     pub fn lend(&mut self, ticket: u64) -> (Claims, Seat)
-        requires { IsSomeAnd (flight_at self.old.future ticket) (λ f. (f.home ≡ true) × (is_stopped f ≡ false)) }
-        ensures lent { IfSome (flight_at self.old.future ticket) (λ f. self.new ≡ with_future self.old (with_flight_at self.old.future ticket (away f))) }
-        ensures held { IfSome (flight_at self.old.future ticket) (λ f. IsOfFlight f result.0 result.1 × (view result.1 ≡ f.view)) }
+        requires { IsSomeAnd (flight_at self.old.future ticket)
+            (λ f. (f.home ≡ true) × (is_stopped f ≡ false)) }
+        ensures lent { IfSome (flight_at self.old.future ticket)
+            (λ f. self.new
+            ≡ with_future self.old (with_flight_at self.old.future ticket (away f))) }
+        ensures held { IfSome (flight_at self.old.future ticket)
+            (λ f. IsOfFlight f result.0 result.1 × (view result.1 ≡ f.view)) }
     {
         let _kept = &self.cargo;
         self.frames.lend(ticket)
     }
 
-    /// Puts back what was lent. No tile is open at the seat, and it has split off no seat, has not stopped and has collected nothing
-    /// since.
+    /// Puts back what was lent. No tile is open at the seat, and it has split off no seat, has not
+    /// stopped and has collected nothing since.
     pub fn put_back(&mut self, ticket: u64, claims: Claims, seat: Seat)
-        requires { IsSomeAnd (flight_at self.old.future ticket) (λ f. (f.home ≡ false) × IsOfFlight f claims seat × IsWorked f seat) }
-        ensures { IfSome (flight_at self.old.future ticket) (λ f. self.new ≡ with_future self.old (with_flight_at self.old.future ticket (back seat f))) }
+        requires { IsSomeAnd (flight_at self.old.future ticket)
+            (λ f. (f.home ≡ false) × IsOfFlight f claims seat × IsWorked f seat) }
+        ensures { IfSome (flight_at self.old.future ticket)
+            (λ f. self.new
+            ≡ with_future self.old (with_flight_at self.old.future ticket (back seat f))) }
     {
         let _kept = &self.cargo;
         self.frames.put_back(ticket, claims, seat);

@@ -14,52 +14,69 @@ ghost use Rattle.flight_books.specs.Kept.{Books, cargo_at, cargo_of, AreBooks, I
 ghost use Rattle.flight_books.specs.Rests.{IsUnworked};
 ghost use Rattle.flight_books.specs.Sweeps.{note_of, IsSwept};
 
-/// Of a flight that began, and of which no seat was handed out nor its first one lent, each look reads no tile as claimed, and none as
-/// given.
+/// Of a flight that began, and of which no seat was handed out nor its first one lent, each look
+/// reads no tile as claimed, and none as given.
 pub fn a_begun_flight_reads_nothing()
-    ensures claimed { (ticket frame : ℕ) (channels : List Bool) (claims : TheClaims) (s : TheSeat) (g : Flying) (read : ℕ) → IsNew claims s
+    ensures claimed { (ticket frame : ℕ) (channels : List Bool) (claims : TheClaims) (s : TheSeat)
+        (g : Flying) (read : ℕ) → IsNew claims s
         → IsCount (begun ticket frame channels claims s) g read → read ≡ 0 }
-    ensures given { (ticket frame : ℕ) (channels : List Bool) (claims : TheClaims) (s : TheSeat) (read : ℕ) → IsNew claims s
+    ensures given { (ticket frame : ℕ) (channels : List Bool) (claims : TheClaims) (s : TheSeat)
+        (read : ℕ) → IsNew claims s
         → IsRead (begun ticket frame channels claims s) read → read ≡ 0 }
 {}
 
-/// A flight of which no seat was handed out, and whose first seat gave as many tiles as it waits for, ends by the next sweep: it is
-/// noted, it is over, and there is no flight with its ticket.
+/// A flight of which no seat was handed out, and whose first seat gave as many tiles as it waits
+/// for, ends by the next sweep: it is noted, it is over, and there is no flight with its ticket.
 pub fn a_given_flight_ends<T>()
-    ensures { (old new : Books T) (before after : History) (f : Flying) → IsKept old.future → IsSwept old new before after
-        → Contains old.future.flights f → IsAlone f.view → length f.view.given ≡ awaited f
-        → Contains after (note_of f) × Contains new.over (looked_at (awaited f) f) × (flight_at new.future f.ticket ≡ None) }
+    ensures { (old new : Books T) (before after : History) (f : Flying)
+        → IsKept old.future → IsSwept old new before after → Contains old.future.flights f
+        → IsAlone f.view → length f.view.given ≡ awaited f
+        → Contains after (note_of f) × Contains new.over (looked_at (awaited f) f)
+        × (flight_at new.future f.ticket ≡ None) }
 {}
 
-/// Where all flights are stopped, those that a sweep leaves are flights of which seats were handed out.
+/// Where all flights are stopped, those that a sweep leaves are flights of which seats were handed
+/// out.
 pub fn stopped_flights_that_stay_were_handed_out<T>()
-    ensures { (old new : Books T) (before after : History) → AreBooks old → AllByRecursion (λ f. is_stopped f ≡ true) old.future.flights
-        → IsSwept old new before after → AllByRecursion (λ f. IsAlone f.view → ⊥) new.future.flights }
+    ensures { (old new : Books T) (before after : History) → AreBooks old
+        → AllByRecursion (λ f. is_stopped f ≡ true) old.future.flights
+        → IsSwept old new before after
+        → AllByRecursion (λ f. IsAlone f.view → ⊥) new.future.flights }
 {}
 
-/// With each flight something is kept, and with all that is kept there is a flight; both are found at one place, by the ticket, and by
-/// the frame.
+/// With each flight something is kept, and with all that is kept there is a flight; both are found
+/// at one place, by the ticket, and by the frame.
 pub fn each_flight_has_its_cargo<T>()
-    ensures flights { (b : Books T) (place : ℕ) (f : Flying) → AreBooks b → slice_get b.future.flights place ≡ Some f
+    ensures flights { (b : Books T) (place : ℕ) (f : Flying) → AreBooks b
+        → slice_get b.future.flights place ≡ Some f
         → (c : TheCargo T) × (slice_get b.cargo place ≡ Some c) × IsBooked f c }
-    ensures cargo { (b : Books T) (place : ℕ) (c : TheCargo T) → AreBooks b → slice_get b.cargo place ≡ Some c
+    ensures cargo { (b : Books T) (place : ℕ) (c : TheCargo T) → AreBooks b
+        → slice_get b.cargo place ≡ Some c
         → (f : Flying) × (slice_get b.future.flights place ≡ Some f) × IsBooked f c }
-    ensures tickets { (b : Books T) (ticket : ℕ) (f : Flying) → AreBooks b → flight_at b.future ticket ≡ Some f
-        → IsSomeAnd (cargo_at b.cargo ticket) (IsBooked f) }
-    ensures frames { (b : Books T) (frame : ℕ) (f : Flying) → AreBooks b → IsKept b.future → flight_of b.future frame ≡ Some f
-        → IsSomeAnd (cargo_of b frame) (IsBooked f) }
+    ensures tickets { (b : Books T) (ticket : ℕ) (f : Flying) → AreBooks b
+        → flight_at b.future ticket ≡ Some f → IsSomeAnd (cargo_at b.cargo ticket) (IsBooked f) }
+    ensures frames { (b : Books T) (frame : ℕ) (f : Flying) → AreBooks b → IsKept b.future
+        → flight_of b.future frame ≡ Some f → IsSomeAnd (cargo_of b frame) (IsBooked f) }
 {}
 
-/// A sweep of flights at which nobody worked notes nothing, and changes only what their first seats know of their looks. Nobody
-/// worked at them still.
+/// A sweep of flights at which nobody worked notes nothing, and changes only what their first seats
+/// know of their looks. Nobody worked at them still.
 pub fn unworked_flights_stay<T>()
-    ensures { (old new : Books T) (before after : History) → AllByRecursion IsUnworked old.future.flights → IsSwept old new before after
-        → (after ≡ before) × (new ≡ record old { future = record old.future { flights = map (λ f. looked_at f.looked f) old.future.flights } })
+    ensures { (old new : Books T) (before after : History)
+        → AllByRecursion IsUnworked old.future.flights → IsSwept old new before after
+        → (after ≡ before)
+        × (new ≡ record old {
+          future = record old.future
+              { flights = map (λ f. looked_at f.looked f) old.future.flights };
+        })
         × AllByRecursion IsUnworked new.future.flights }
 {}
 
-/// A flight that was lent is found by its ticket, lent, and once it is back no flight is lent, if none was lent before.
+/// A flight that was lent is found by its ticket, lent, and once it is back no flight is lent, if
+/// none was lent before.
 pub fn what_was_lent_comes_home()
-    ensures { (s : Future) (ticket : ℕ) (f g : Flying) → AreHome s → flight_at s ticket ≡ Some f → g.home ≡ true
-        → (flight_at (with_flight_at s ticket (away f)) ticket ≡ Some (away f)) × AreHome (with_flight_at (with_flight_at s ticket (away f)) ticket g) }
+    ensures { (s : Future) (ticket : ℕ) (f g : Flying) → AreHome s
+        → flight_at s ticket ≡ Some f → g.home ≡ true
+        → (flight_at (with_flight_at s ticket (away f)) ticket ≡ Some (away f))
+        × AreHome (with_flight_at (with_flight_at s ticket (away f)) ticket g) }
 {}

@@ -1,7 +1,8 @@
 //! Flights with what is kept of each, and the sweeps over them.
 //!
-//! [`FlightBooks`] keeps with each flight of its frames a [`Cargo`]: what the flight reads, until it ends. A sweep looks once at each
-//! flight, by rising ticket, and notes those that end, as the journal of a device has them.
+//! [`FlightBooks`] keeps with each flight of its frames a [`Cargo`]: what the flight reads, until
+//! it ends. A sweep looks once at each flight, by rising ticket, and notes those that end, as the
+//! journal of a device has them.
 #![tactic(auto)]
 
 mod books;

@@ -59,7 +59,8 @@ impl<T> FlightBooks<T> {
     ///
     /// Want of memory alone.
     pub fn tickets(&self, alloc: Global) -> Result<Vec<u64>, NoMemory>
-        ensures { IfOk result (λ tickets. tickets.items ≡ map (λ f. f.ticket) self.now.future.flights) }
+        ensures { IfOk result (λ tickets. tickets.items
+            ≡ map (λ f. f.ticket) self.now.future.flights) }
     {
         Ok(tickets_of(&self.cargo, alloc)?)
     }
@@ -72,7 +73,8 @@ fn tickets_of<T>(cargo: &[Cargo<T>], alloc: Global) -> Result<Vec<u64>, AllocErr
     cargo.iter().map(|kept| kept.ticket).collect(alloc)
 }
 
-/// How many tiles are claimed of claims that a flight may begin with, by a look: none. It may still begin with them.
+/// How many tiles are claimed of claims that a flight may begin with, by a look: none. It may still
+/// begin with them.
 pub fn fresh(claims: &Claims, seat: &mut Seat) -> u64
     requires { IsNew claims.now seat.old }
     ensures none { result ≡ 0 }

@@ -7,7 +7,8 @@ use frame_future::{Ended, Frames};
 use std::marker::{Model, PhantomData};
 use std::snapshot::Snapshot;
 
-/// Flights, for contracts alone (`list`): they have no bytes, and nothing reads them when the program runs.
+/// Flights, for contracts alone (`list`): they have no bytes, and nothing reads them when the
+/// program runs.
 pub(crate) struct FlightNames {
     marker: PhantomData<()>,
     pub(crate) ghost list: { List Flying },

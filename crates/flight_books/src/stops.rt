@@ -8,7 +8,8 @@ use dev_types::Handle;
 use frame_future::Phase;
 
 impl<T> FlightBooks<T> {
-    /// Stops each flight that was not stopped: it waits for the tiles that were claimed. The pictures stay.
+    /// Stops each flight that was not stopped: it waits for the tiles that were claimed. The
+    /// pictures stay.
     pub fn stop_all(&mut self)
         requires home { AreHome self.old.future }
         ensures stopped { StopsAll self.old self.new }
@@ -33,7 +34,8 @@ impl<T> FlightBooks<T> {
     // Stops the frame's flight, if it has one. Its picture stays.
     fn stop_flight(&mut self, frame: Handle)
         requires home { AreHome self.old.future }
-        ensures stopped { StopsFlight frame self.old.future self.new.future (flight_of self.old.future frame) }
+        ensures stopped { StopsFlight frame self.old.future self.new.future
+            (flight_of self.old.future frame) }
         ensures none { flight_of self.new.future frame ≡ None }
         ensures cargo { self.new.cargo ≡ self.old.cargo }
         ensures over { self.new.over ≡ self.old.over }

@@ -51,6 +51,8 @@ fn a_stopped_flight_is_left(rt: HostRuntime) -> Result<(), Fail> {
     assert_eq!(rt; books.cargo_at(5).map_or(0, |cargo| cargo.kept), 4);
     assert_eq!(rt; books.cargo_of(frame).map_or(0, |cargo| cargo.ticket), 5);
     assert_eq!(rt; books.first_ticket(), Some(5));
+    let tickets = books.tickets(alloc).map_err(|_| "out of memory")?;
+    assert!(rt; matches!(tickets.as_slice(), [5]));
     assert_eq!(rt; books.claimed(5), 0);
     books.stop_all();
     assert!(rt; books.cargo_of(frame).is_none());
