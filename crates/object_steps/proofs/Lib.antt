@@ -3,6 +3,7 @@ pub mod CarryFacts
 pub mod Counts
 pub mod Effects
 pub mod Given
+pub mod Standings
 pub mod ParameterLoanFacts
 pub mod Rested
 pub mod Tickets

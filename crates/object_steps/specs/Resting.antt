@@ -1,12 +1,13 @@
 -- A store that stands where a history led to.
-use Rattle.std.specs.Prelude.{◌≡◌, ℕ, List, count_by, true}
+use Rattle.std.specs.Prelude.{◌≡◌, ℕ, List, [], ◌∷◌, ◌++◌, count_by, true}
 use Rattle.std.specs.Option.{IsSome}
 use Rattle.object_store.specs.Kept.{Stored, number_at}
 use Rattle.seq_model.specs.Histories.{History, public}
 use Rattle.seq_model.specs.Legal.{Legal}
 use Rattle.seq_model.specs.State.{State, flights, object_at}
-use Rattle.seq_model.specs.Steps.{after, is_reached_by}
+use Rattle.seq_model.specs.Steps.{Past, after, change, is_reached_by, next_place, step}
 use Rattle.seq_model.specs.declared.calls.Call.{Call}
+use Rattle.seq_model.specs.declared.calls.Entry.{Entry}
 use Rattle.seq_model.specs.declared.calls.Call.TheVariants.{NewObject, NewArray, UnmapParameterArray, RenderFrame, DiscardFrame, MapFrame, UnmapFrame}
 
 -- how many flights of a state reached an object
@@ -20,6 +21,13 @@ pub record IsAtRest (s : Stored) (history : History) : Type 0 where
   pub state : s.state ≡ (after history).state
   pub public : (h : ℕ) → IsSome (object_at s.state h) → number_at s.public h ≡ public history h
   pub holds : (h : ℕ) → number_at s.holds h ≡ reaches (after history).reached s.state h
+
+-- one more entry was made in a store, and what does not live any more is still there
+pub record Follows (moved : Stored) (history : History) (e : Entry) : Type 0 where
+  pub legal : Legal (history ++ e ∷ [])
+  pub state : moved.state ≡ change (next_place (after history)) e (after history).state
+  pub public : (h : ℕ) → IsSome (object_at moved.state h) → number_at moved.public h ≡ public (history ++ e ∷ []) h
+  pub holds : (h : ℕ) → number_at moved.holds h ≡ reaches (step (after history) e).reached moved.state h
 
 -- the call changes no frame
 abbrev pub IsOfObjects : Call → Type 0
@@ -35,3 +43,11 @@ HasRoom s (NewObject t subtype) = s.ready ≡ true
 HasRoom s (NewArray elem count stride origin bytes) = s.ready ≡ true
 HasRoom s (UnmapParameterArray h name number bytes) = s.ready ≡ true
 HasRoom s call = Unit {0}
+
+-- a store, and the history that led to it; and the past that this is
+pub record Rested : Type 0 where
+  pub stored : Stored
+  pub history : History
+
+abbrev pub past_of : Rested → Past
+past_of r = record { seen = r.history; state = r.stored.state; reached = (after r.history).reached }

@@ -6,9 +6,11 @@
 #![tactic(auto)]
 
 pub mod array_loans;
+pub mod at_rest;
 pub mod carry_laws;
 pub mod changes;
 pub mod lent_params;
 
 pub use array_loans::ArrayLoan;
+pub use at_rest::{AtRest, Records};
 pub use lent_params::LentParam;
