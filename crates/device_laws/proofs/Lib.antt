@@ -3,8 +3,10 @@ pub mod ChangeFacts
 pub mod FlightFacts
 pub mod FlightSteps
 pub mod FlownFacts
+pub mod FrameFacts
 pub mod FutureFacts
 pub mod PhaseFacts
+pub mod RenderFacts
 pub mod ShowingFacts
 pub mod StandingFacts
 pub mod StandingSteps

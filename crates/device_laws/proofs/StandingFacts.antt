@@ -32,7 +32,7 @@ found {X} P p (y ∷ xs) x all is = by (p y) refl is (λ later. found P p xs x a
     by false fails is rest = rest is
 
 -- each flight with its run
-flights_have_runs : (P : Run → Type 0) (fs : List Flying) → AllByRecursion P (runs_of fs) → AllByRecursion (λ f. P (run_of f)) fs
+pub flights_have_runs : (P : Run → Type 0) (fs : List Flying) → AllByRecursion P (runs_of fs) → AllByRecursion (λ f. P (run_of f)) fs
 flights_have_runs P [] all = tt
 flights_have_runs P (f ∷ fs) all = (all.0, flights_have_runs P fs all.1)
 

@@ -1,5 +1,7 @@
 pub mod Changing
 pub mod FlightMoves
 pub mod Flown
+pub mod Renders
+pub mod SameFrames
 pub mod Showings
 pub mod Standing

@@ -4,6 +4,8 @@
 
 mod entry_laws;
 mod flight_laws;
+mod frame_laws;
+mod render_laws;
 
 pub use entry_laws::{
     burials_end_an_entry, burials_leave_what_lives, calls_change_the_objects, entries_move_flights,
@@ -14,3 +16,5 @@ pub use flight_laws::{
     kept_phases_are_those_of_the_history, maps_lend_a_channel, notes_end_a_flight,
     other_entries_keep_the_flights, renders_begin_a_flight,
 };
+pub use frame_laws::{calls_on_kept_frames_leave_them, same_frames_stand_alike};
+pub use render_laws::flights_show_their_renders;
