@@ -16,11 +16,11 @@ use Rattle.frame_future.specs.Reads.{AreRead, IsRead, ended_by, is_end, left_by,
 use Rattle.frame_future.proofs.AloneLaws.{idle_claimed}
 use Rattle.frame_future.proofs.ReadLaws.{rising-above}
 use Rattle.flight_books.specs.declared.kept.Cargo.{Cargo}
-use Rattle.flight_books.specs.Kept.{AreBooked, AreBooks, Books, without_all}
-use Rattle.flight_books.proofs.CargoLaws.{apart, equal}
+use Rattle.flight_books.specs.Kept.{AreBooked, AreBooks, Books, without, without_all}
+use Rattle.flight_books.proofs.CargoLaws.{apart, equal, not_in_front, tickets_above}
 use Rattle.flight_books.proofs.WorkLaws.{at_place}
 use Rattle.flight_books.specs.Rests.{IsUnworked}
-use Rattle.flight_books.specs.Sweeps.{IsSwept, note_of, notes_of, tickets_of}
+use Rattle.flight_books.specs.Sweeps.{IsSwept, WasBefore, note_of, notes_of, tickets_of}
 
 above_not : (a b : ℕ) → a < b → (b == a) ≡ false
 above_not a b less = grind (arith, less)
@@ -149,3 +149,41 @@ module _ {T : Type 0} where
         λ i. record { future = record { flights = flights i; pictures = pictures i }; cargo = cargo i; over = over i },
         subst (λ fs. AllByRecursion IsUnworked fs) (sym flights) all.2,
       )
+
+  -- a flight that a sweep leaves, at its places after it and before it, with what is kept with it at both
+  left_pair : (fs : List Flying) (rs : List ℕ) (cs : List (Cargo T)) (k : ℕ) (g : Flying) → AreBooked fs cs → AreRead fs rs → Rising (map (λ (h : Flying). h.ticket) fs)
+      → slice_get (left_by fs rs) k ≡ Some g → WasBefore fs cs (without_all (tickets_of (ended_by fs rs)) cs) k g
+  left_pair [] rs cs k g of read rising at = absurd (none-some g at)
+  left_pair (f ∷ fs) [] cs k g of read rising at = absurd read
+  left_pair (f ∷ fs) (r ∷ rs) [] k g of read rising at = absurd of
+  left_pair (f ∷ fs) (r ∷ rs) (c ∷ cs) k g of read rising at = by (is_end f r) k at (λ i rest. left_pair fs rs cs i g of.1 read.1 rising.1 rest)
+    where
+      behind_first : (ds es : List (Cargo T)) (i n : ℕ) → ((x : Cargo T) → slice_get ds i ≡ Some x → slice_get es n ≡ Some x) → WasBefore fs cs ds i g → WasBefore (f ∷ fs) (c ∷ cs) es n g
+      behind_first ds es i n same was = record { place = suc was.place; before = was.before; kept = was.kept; read = was.read; there = was.there; with = was.with; still = same was.kept was.still; now = was.now }
+
+      by : (b : Bool) (i : ℕ) → slice_get (cond b (left_by fs rs) (looked_at r f ∷ left_by fs rs)) i ≡ Some g
+          → ((n : ℕ) → slice_get (left_by fs rs) n ≡ Some g → WasBefore fs cs (without_all (tickets_of (ended_by fs rs)) cs) n g)
+          → WasBefore (f ∷ fs) (c ∷ cs) (without_all (tickets_of (cond b (looked_at r f ∷ ended_by fs rs) (ended_by fs rs))) (c ∷ cs)) i g
+      by true i here deeper =
+          let hit : without f.ticket (c ∷ cs) ≡ cs = ap (λ b. cond b cs (c ∷ without f.ticket cs)) (equal c.ticket f.ticket of.0.ticket) in
+          let rest : List ℕ = tickets_of (ended_by fs rs) in
+          behind_first (without_all rest cs) (without_all rest (without f.ticket (c ∷ cs))) i i
+          (λ x there. ap (λ ds. slice_get (without_all rest ds) i) hit ∙ there) (deeper i here)
+      by false i here deeper =
+          let rest : List ℕ = tickets_of (ended_by fs rs) in
+          let same : c.ticket ≡ f.ticket = of.0.ticket in
+          let stays : without_all rest (c ∷ cs) ≡ c ∷ without_all rest cs =
+          not_in_front rest c cs (subst (λ t. AllByRecursion (λ u. t < u) rest) (sym same) (tickets_above f.ticket fs rs (rising-above f fs rising))) in
+          subst (λ ds. WasBefore (f ∷ fs) (c ∷ cs) ds i g) (sym stays) (at_first i here deeper)
+        where
+          at_first : (n : ℕ) → slice_get (looked_at r f ∷ left_by fs rs) n ≡ Some g
+              → ((m : ℕ) → slice_get (left_by fs rs) m ≡ Some g → WasBefore fs cs (without_all (tickets_of (ended_by fs rs)) cs) m g)
+              → WasBefore (f ∷ fs) (c ∷ cs) (c ∷ without_all (tickets_of (ended_by fs rs)) cs) n g
+          at_first zero there more = let e : looked_at r f ≡ g = cc in record { place = 0; before = f; kept = c; read = r; there = refl; with = refl; still = refl; now = sym e }
+          at_first (suc n) there more = behind_first (without_all (tickets_of (ended_by fs rs)) cs) (c ∷ without_all (tickets_of (ended_by fs rs)) cs) n (suc n) (λ x kept. kept) (more n there)
+
+  pub swept_pairs : (old new : Books T) (before after : History) (place : ℕ) (g : Flying) → AreBooks old → IsKept old.future → IsSwept old new before after
+      → slice_get new.future.flights place ≡ Some g → WasBefore old.future.flights old.cargo new.cargo place g
+  swept_pairs old new before after place g books kept s at =
+      subst (λ cs. WasBefore old.future.flights old.cargo cs place g) (sym s.cargo)
+      (left_pair old.future.flights s.reads old.cargo place g books.cargo s.looks kept.rising (ap (λ fs. slice_get fs place) (sym s.flights) ∙ at))

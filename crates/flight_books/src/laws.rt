@@ -12,7 +12,7 @@ ghost use Rattle.frame_future.specs.Reads.{IsRead};
 ghost use Rattle.flight_books.specs.declared.kept.Cargo.{Cargo as TheCargo};
 ghost use Rattle.flight_books.specs.Kept.{Books, cargo_at, cargo_of, AreBooks, IsBooked};
 ghost use Rattle.flight_books.specs.Rests.{IsUnworked};
-ghost use Rattle.flight_books.specs.Sweeps.{note_of, IsSwept};
+ghost use Rattle.flight_books.specs.Sweeps.{note_of, IsSwept, WasBefore};
 
 /// Of a flight that began, and of which no seat was handed out nor its first one lent, each look
 /// reads no tile as claimed, and none as given.
@@ -57,6 +57,15 @@ pub fn each_flight_has_its_cargo<T>()
         → flight_at b.future ticket ≡ Some f → IsSomeAnd (cargo_at b.cargo ticket) (IsBooked f) }
     ensures frames { (b : Books T) (frame : ℕ) (f : Flying) → AreBooks b → IsKept b.future
         → flight_of b.future frame ≡ Some f → IsSomeAnd (cargo_of b frame) (IsBooked f) }
+{}
+
+/// Each flight that a sweep leaves was there before it, and what is kept with it stays kept with it:
+/// the sweep looked at it once.
+pub fn a_sweep_keeps_pairs<T>()
+    ensures { (old new : Books T) (before after : History) (place : ℕ) (g : Flying) → AreBooks old
+        → IsKept old.future → IsSwept old new before after
+        → slice_get new.future.flights place ≡ Some g
+        → WasBefore old.future.flights old.cargo new.cargo place g }
 {}
 
 /// A sweep of flights at which nobody worked notes nothing, and changes only what their first seats
