@@ -75,7 +75,7 @@ set_number numbers k m h some = by (k == h) refl
     by false is =
         ap (λ x. unwrap_or x 0) (at_unchanged k h numbers m (λ same. let wrong : true ≡ false = sym (eq-eqb k h (sym same)) ∙ is in cc))
 
-none_more : (a b : ℕ) → a + cond false 1 0 ≡ b + cond false 1 0 + cond false 1 0 → b ≡ a
+pub none_more : (a b : ℕ) → a + cond false 1 0 ≡ b + cond false 1 0 + cond false 1 0 → b ≡ a
 none_more a b moves = omega (arith, moves)
 
 no_more : (t : Bool) (n : ℕ) → n + cond t 0 0 ≡ n

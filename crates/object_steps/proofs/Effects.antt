@@ -20,7 +20,7 @@ use Rattle.seq_model.specs.declared.calls.Reply.TheVariants as reply
 use Rattle.object_steps.specs.Resting.{IsOfObjects}
 use Rattle.object_steps.proofs.Tickets.{set_tickets, tickets}
 
-changed_flights : (h : ℕ) (f : Object → Object) (s : State) → ((o : Object) → (f o).phase ≡ o.phase) → flights (changed_at h f s) ≡ flights s
+pub changed_flights : (h : ℕ) (f : Object → Object) (s : State) → ((o : Object) → (f o).phase ≡ o.phase) → flights (changed_at h f s) ≡ flights s
 changed_flights h f s same = by (object_at s h) refl
   where
     by : (x : Option Object) → object_at s h ≡ x → tickets (unwrap_or (option_map (λ o. set_value (is_at (nat_cmp h)) s.objects (f o)) x) s.objects) ++ s.stopped ≡ flights s

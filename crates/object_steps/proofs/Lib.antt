@@ -4,6 +4,9 @@ pub mod Counts
 pub mod Effects
 pub mod Given
 pub mod Standings
+pub mod Starts
 pub mod ParameterLoanFacts
+pub mod ReachLaws
+pub mod Reaches
 pub mod Rested
 pub mod Tickets

@@ -8,7 +8,9 @@ use Rattle.seq_model.specs.State.{State, flights, object_at}
 use Rattle.seq_model.specs.Steps.{Past, after, change, is_reached_by, next_place, step}
 use Rattle.seq_model.specs.declared.calls.Call.{Call}
 use Rattle.seq_model.specs.declared.calls.Entry.{Entry}
-use Rattle.seq_model.specs.declared.calls.Call.TheVariants.{NewObject, NewArray, UnmapParameterArray, RenderFrame, DiscardFrame, MapFrame, UnmapFrame}
+use Rattle.seq_model.specs.declared.calls.Entry.TheVariants.{Called}
+use Rattle.seq_model.specs.declared.calls.Reply.TheVariants as reply
+use Rattle.seq_model.specs.declared.calls.Call.TheVariants.{NewObject, NewArray, Retain, Release, UnmapParameterArray, RenderFrame, DiscardFrame, MapFrame, UnmapFrame}
 
 -- how many flights of a state reached an object
 abbrev pub reaches : List (ℕ × List ℕ) → State → ℕ → ℕ
@@ -28,6 +30,14 @@ pub record Follows (moved : Stored) (history : History) (e : Entry) : Type 0 whe
   pub state : moved.state ≡ change (next_place (after history)) e (after history).state
   pub public : (h : ℕ) → IsSome (object_at moved.state h) → number_at moved.public h ≡ public (history ++ e ∷ []) h
   pub holds : (h : ℕ) → number_at moved.holds h ≡ reaches (step (after history) e).reached moved.state h
+
+-- the entry gives out and takes back no public reference
+abbrev pub KeepsReferences : Entry → Type 0
+KeepsReferences (Called _ (NewObject _ _) (reply.Made _)) = ⊥
+KeepsReferences (Called _ (NewArray _ _ _ _ _) (reply.Made _)) = ⊥
+KeepsReferences (Called _ (Retain _) reply.Done) = ⊥
+KeepsReferences (Called _ (Release _) reply.Done) = ⊥
+KeepsReferences e = Unit {0}
 
 -- the call changes no frame
 abbrev pub IsOfObjects : Call → Type 0
