@@ -6,6 +6,7 @@ pub mod FlownFacts
 pub mod FrameFacts
 pub mod FutureFacts
 pub mod PhaseFacts
+pub mod ReachFacts
 pub mod RenderFacts
 pub mod ShowingFacts
 pub mod StandingFacts

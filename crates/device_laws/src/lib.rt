@@ -12,7 +12,7 @@ pub use entry_laws::{
     entries_move_frames,
 };
 pub use flight_laws::{
-    discards_stop_a_flight, flights_are_shown_by_their_frames,
+    discards_stop_a_flight, flights_are_shown_by_their_frames, flights_hold_what_they_reached,
     kept_phases_are_those_of_the_history, maps_lend_a_channel, notes_end_a_flight,
     other_entries_keep_the_flights, renders_begin_a_flight,
 };
