@@ -5,6 +5,8 @@ pub mod FlightSteps
 pub mod FlownFacts
 pub mod FrameFacts
 pub mod FutureFacts
+pub mod LentFacts
+pub mod LoanSteps
 pub mod PhaseFacts
 pub mod ReachFacts
 pub mod RenderFacts

@@ -5,6 +5,7 @@
 mod entry_laws;
 mod flight_laws;
 mod frame_laws;
+mod loan_laws;
 mod render_laws;
 
 pub use entry_laws::{
@@ -17,4 +18,5 @@ pub use flight_laws::{
     other_entries_keep_the_flights, renders_begin_a_flight,
 };
 pub use frame_laws::{calls_on_kept_frames_leave_them, same_frames_stand_alike};
+pub use loan_laws::{kept_loans_are_those_of_the_history, mapped_frames_have_pictures};
 pub use render_laws::flights_show_their_renders;
