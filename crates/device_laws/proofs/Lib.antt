@@ -14,3 +14,4 @@ pub mod ShowingFacts
 pub mod StandingFacts
 pub mod StandingSteps
 pub mod SweepFacts
+pub mod UnmapSteps

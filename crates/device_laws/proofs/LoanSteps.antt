@@ -29,7 +29,7 @@ use Rattle.device_laws.specs.Showings.{Showing, showing_after, showing_at, with_
 use Rattle.device_laws.specs.Standing.{AreLeft, pictures_left}
 
 -- channels are the same where their names are
-same_is : (c d : Channel) → is_same_channel c d ≡ true → c ≡ d
+pub same_is : (c d : Channel) → is_same_channel c d ≡ true → c ≡ d
 same_is Color Color is = refl
 same_is PrimitiveId PrimitiveId is = refl
 same_is ObjectId ObjectId is = refl
@@ -73,7 +73,7 @@ count_four a b e f v PrimitiveId = refl
 count_four a b e f v ObjectId = refl
 count_four a b e f v InstanceId = refl
 
-set_loan : (loans : List (Option ℕ)) (v : Option ℕ) (c : Channel) → length loans ≡ 4 →
+pub set_loan : (loans : List (Option ℕ)) (v : Option ℕ) (c : Channel) → length loans ≡ 4 →
     (length (slice_set loans (number_of_channel c) v) ≡ 4) × ((d : Channel) → loan_of (slice_set loans (number_of_channel c) v) d ≡ cond (is_same_channel c d) v (loan_of loans d))
 set_loan [] v c long = absurd (omega (arith, long))
 set_loan (a ∷ []) v c long = absurd (omega (arith, long))
@@ -113,7 +113,7 @@ all_not p P Q (x ∷ xs) none more all = by (p x) refl (count_next p x xs) (all_
     by true is next rest = absurd (let one : cond {A = ℕ} (p x) 1 0 ≡ 1 = ap (λ b. cond {A = ℕ} b 1 0) is in omega (arith, none, next, one))
     by false is next rest = (more x is all.0, rest (omega (arith, none, next)) more all.1)
 
-all_replaced : (p : Finished → Bool) (P Q : Finished → Type 0) (new : Finished) (xs : List Finished) → count_by p xs ≤ 1 → Q new → ((x : Finished) → p x ≡ false → P x → Q x) → AllByRecursion P xs →
+pub all_replaced : (p : Finished → Bool) (P Q : Finished → Type 0) (new : Finished) (xs : List Finished) → count_by p xs ≤ 1 → Q new → ((x : Finished) → p x ≡ false → P x → Q x) → AllByRecursion P xs →
     AllByRecursion Q (replaced p new xs)
 all_replaced p P Q new [] single is more all = tt
 all_replaced p P Q new (x ∷ xs) single is more all = by (p x) refl (count_next p x xs) (all_replaced p P Q new xs)
@@ -125,7 +125,7 @@ all_replaced p P Q new (x ∷ xs) single is more all = by (p x) refl (count_next
     by false fails next rest = (more x fails all.0, rest (omega (arith, single, next)) is more all.1)
 
 -- pictures of other frames, where an entry changes the channels of one
-other_lent : (history : History) (e : Entry) (f : ℕ) (change : List (Channel × ℕ) → List (Channel × ℕ)) (left : ℕ → Bool) → AreLeft history e left →
+pub other_lent : (history : History) (e : Entry) (f : ℕ) (change : List (Channel × ℕ) → List (Channel × ℕ)) (left : ℕ → Bool) → AreLeft history e left →
     ((h : ℕ) (x : Showing) → showing_after (length history + 1) e h x ≡ cond (f == h) (with_channels change x) x) →
     (q : Finished) → is_picture_of f q ≡ false → (phase_at (after history) q.frame ≡ Done q.ticket) × IsLent history q → left q.frame ≡ true → IsLent (history ++ e ∷ []) q
 other_lent history e f change left leaves makes q other is stays =

@@ -5,13 +5,14 @@ ghost use Rattle.std.specs.List.{filter, find};
 ghost use Rattle.std.specs.Option.{is_some};
 ghost use Rattle.dev_types.specs.declared.data_types.DataType.{DataType};
 ghost use Rattle.dev_types.specs.declared.handles.Channel.{Channel};
-ghost use Rattle.frame_future.specs.Future.{Finished, Future, is_mapped, is_picture_of, lent_as, replaced};
+ghost use Rattle.frame_future.specs.Channels.{loan_of};
+ghost use Rattle.frame_future.specs.Future.{Finished, Future, given_back, is_mapped, is_picture_of, lent_as, replaced};
 ghost use Rattle.seq_model.specs.Histories.{History};
 ghost use Rattle.seq_model.specs.Legal.{Legal};
 ghost use Rattle.seq_model.specs.Refusals.{mapped_at, phase_at};
 ghost use Rattle.seq_model.specs.State.{Flight, object_at};
 ghost use Rattle.seq_model.specs.Steps.{after};
-ghost use Rattle.seq_model.specs.declared.calls.Call.TheVariants.{MapFrame};
+ghost use Rattle.seq_model.specs.declared.calls.Call.TheVariants.{MapFrame, UnmapFrame};
 ghost use Rattle.seq_model.specs.declared.calls.Entry.{Entry};
 ghost use Rattle.seq_model.specs.declared.calls.Entry.TheVariants.{Called};
 ghost use Rattle.seq_model.specs.declared.calls.Reply.TheVariants as reply;
@@ -34,7 +35,7 @@ pub fn mapped_frames_have_pictures()
 
 /// The loans of kept pictures stay those of the mapped channels of their frames: by each entry that
 /// maps none and takes none back, of fewer pictures, of the picture that a flight leaves, and where a
-/// channel is lent by its entry.
+/// channel is lent by its entry or comes back.
 pub fn kept_loans_are_those_of_the_history()
     ensures others { (history : History) (e : Entry) (left : ℕ → Bool) (runs : List Run) (pictures : List Finished)
         → moves_channels e ≡ false
@@ -63,4 +64,14 @@ pub fn kept_loans_are_those_of_the_history()
         → AreLent history pictures
         → AreLent (history ++ Called actor (MapFrame f c) (reply.Mapped width height t rows) ∷ [])
         (pictures_left left (replaced (is_picture_of f) (lent_as p c (length history + 1)) pictures)) }
+    ensures back { (history : History) (actor f number : ℕ) (c : Channel) (left : ℕ → Bool) (runs : List Run) (p : Finished) (pictures : List Finished)
+        → Legal history
+        → AreLeft history (Called actor (UnmapFrame f number) reply.Done) left
+        → Standing history runs pictures
+        → count_by (is_picture_of f) pictures ≤ 1
+        → find (is_picture_of f) pictures ≡ Some p
+        → loan_of p.loans c ≡ Some number
+        → AreLent history pictures
+        → AreLent (history ++ Called actor (UnmapFrame f number) reply.Done ∷ [])
+        (pictures_left left (replaced (is_picture_of f) (given_back p c) pictures)) }
 {}
