@@ -1,5 +1,5 @@
 //! What the layers above may rely on: each law is the contract of a function that does nothing.
-ghost use Rattle.std.specs.Prelude.{◌≡◌, ℕ, Bool, List, Some, None, length, map, true};
+ghost use Rattle.std.specs.Prelude.{◌≡◌, ℕ, [], Bool, List, Some, None, length, map, true};
 ghost use Rattle.std.specs.List.{AllByRecursion, Contains, slice_get};
 ghost use Rattle.std.specs.Option.{IsSomeAnd};
 ghost use Rattle.seq_model.specs.Histories.{History};
@@ -12,6 +12,7 @@ ghost use Rattle.frame_future.specs.Reads.{IsRead};
 ghost use Rattle.flight_books.specs.declared.kept.Cargo.{Cargo as TheCargo};
 ghost use Rattle.flight_books.specs.Kept.{Books, cargo_at, cargo_of, AreBooks, IsBooked};
 ghost use Rattle.flight_books.specs.Rests.{IsUnworked};
+ghost use Rattle.flight_books.specs.Stops.{StopsAll};
 ghost use Rattle.flight_books.specs.Sweeps.{note_of, IsSwept, WasBefore};
 
 /// Of a flight that began, and of which no seat was handed out nor its first one lent, each look
@@ -36,12 +37,15 @@ pub fn a_given_flight_ends<T>()
 {}
 
 /// Where all flights are stopped, those that a sweep leaves are flights of which seats were handed
-/// out.
+/// out. So none is left where no seat of any flight was handed out before they were stopped.
 pub fn stopped_flights_that_stay_were_handed_out<T>()
-    ensures { (old new : Books T) (before after : History) → AreBooks old
+    ensures stay { (old new : Books T) (before after : History) → AreBooks old
         → AllByRecursion (λ f. is_stopped f ≡ true) old.future.flights
         → IsSwept old new before after
         → AllByRecursion (λ f. IsAlone f.view → ⊥) new.future.flights }
+    ensures none { (first old new : Books T) (before after : History)
+        → AllByRecursion (λ f. IsAlone f.view) first.future.flights → StopsAll first old
+        → AreBooks old → IsSwept old new before after → new.future.flights ≡ [] }
 {}
 
 /// With each flight something is kept, and with all that is kept there is a flight; both are found
