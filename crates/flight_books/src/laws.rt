@@ -1,5 +1,5 @@
 //! What the layers above may rely on: each law is the contract of a function that does nothing.
-ghost use Rattle.std.specs.Prelude.{◌≡◌, ℕ, [], Bool, List, Some, None, length, map, true};
+ghost use Rattle.std.specs.Prelude.{◌≡◌, ◌<◌, ℕ, [], Bool, List, Option, Result, Some, None, length, map, slice_index_or, true};
 ghost use Rattle.std.specs.List.{AllByRecursion, Contains, slice_get};
 ghost use Rattle.std.specs.Option.{IsSomeAnd};
 ghost use Rattle.seq_model.specs.Histories.{History};
@@ -14,6 +14,9 @@ ghost use Rattle.flight_books.specs.Kept.{Books, cargo_at, cargo_of, AreBooks, I
 ghost use Rattle.flight_books.specs.Rests.{IsUnworked};
 ghost use Rattle.flight_books.specs.Stops.{StopsAll};
 ghost use Rattle.flight_books.specs.Sweeps.{note_of, IsSwept, WasBefore};
+ghost use Rattle.flight_books.specs.Work.{AreAsked, StaysOrAsked};
+ghost use Rattle.flight_books.specs.declared.work.Handed.{Handed as TheHanded};
+ghost use Rattle.dev_types.specs.declared.handles.NoMemory.{NoMemory as NoRoom};
 
 /// Of a flight that began, and of which no seat was handed out nor its first one lent, each look
 /// reads no tile as claimed, and none as given.
@@ -70,6 +73,16 @@ pub fn a_sweep_keeps_pairs<T>()
         → IsKept old.future → IsSwept old new before after
         → slice_get new.future.flights place ≡ Some g
         → WasBefore old.future.flights old.cargo new.cargo place g }
+{}
+
+/// Where flights are asked for a seat, as [`FlightBooks::hand_out`](crate::FlightBooks::hand_out)
+/// does, each stays as it is or was asked itself.
+pub fn flights_that_are_asked_stay()
+    ensures { (old new : Future) (result : Result (Option TheHanded) NoRoom)
+        → AreAsked old new result
+        → (length new.flights ≡ length old.flights) × (new.pictures ≡ old.pictures)
+        × ((k : ℕ) (d : Flying) → k < length old.flights
+        → StaysOrAsked (slice_index_or old.flights k d) (slice_index_or new.flights k d)) }
 {}
 
 /// A sweep of flights at which nobody worked notes nothing, and changes only what their first seats
