@@ -55,7 +55,7 @@ unfolding discard
 discarded_there h f s o there =
     ap (λ es. is_some (at h es)) (stop_objects (option_map_or (λ o. o.phase) (object_at s f) Empty) (changed_at f (set_phase Empty) s)) ∙ phase_there h f Empty s o there
 
-still_there : (place : ℕ) (e : Entry) (s t : State) → Change place e s t → (e ≡ Closed → ⊥) → (h : ℕ) (o : Object) → object_at s h ≡ Some o → is_some (object_at t h) ≡ true
+pub still_there : (place : ℕ) (e : Entry) (s t : State) → Change place e s t → (e ≡ Closed → ⊥) → (h : ℕ) (o : Object) → object_at s h ≡ Some o → is_some (object_at t h) ≡ true
 still_there place e s t (Quiet shows takes quiet) going h o there = like_there (object_at s h) (object_at t h) (ap is_some there) (quiet.like h)
 still_there place e s t (Making a u shows takes phase quiet made) going h o there = by (object_at u h) refl (like_there (object_at s h) (object_at u h) (ap is_some there) (quiet.like h))
   where

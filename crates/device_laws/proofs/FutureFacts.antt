@@ -9,7 +9,7 @@ use Rattle.device_laws.specs.Flown.{run_of, runs_of, stopped_run, stopped_runs}
 use Rattle.device_laws.specs.Standing.{other_pictures}
 
 -- a count of none, and of one more
-count_next : {X : Type 0} (p : X → Bool) (x : X) (xs : List X) → count_by p (x ∷ xs) ≡ cond (p x) 1 0 + count_by p xs
+pub count_next : {X : Type 0} (p : X → Bool) (x : X) (xs : List X) → count_by p (x ∷ xs) ≡ cond (p x) 1 0 + count_by p xs
 count_next {X} p x xs = sum_by-cons (λ (y : X). cond (p y) 1 0) x xs
 
 -- where no picture is the frame's, all are others

@@ -5,9 +5,13 @@ pub mod FlightSteps
 pub mod FlownFacts
 pub mod FrameFacts
 pub mod FutureFacts
+pub mod LentFacts
+pub mod LoanSteps
 pub mod PhaseFacts
+pub mod ReachFacts
 pub mod RenderFacts
 pub mod ShowingFacts
 pub mod StandingFacts
 pub mod StandingSteps
 pub mod SweepFacts
+pub mod UnmapSteps

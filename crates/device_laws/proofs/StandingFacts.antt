@@ -22,7 +22,7 @@ use Rattle.device_laws.specs.Showings.{is_flight}
 use Rattle.device_laws.specs.Standing.{Standing, phase_as}
 
 -- the first that passes
-found : {X : Type 0} (P : X → Type 0) (p : X → Bool) (xs : List X) (x : X) → AllByRecursion P xs → find p xs ≡ Some x → P x × (p x ≡ true)
+pub found : {X : Type 0} (P : X → Type 0) (p : X → Bool) (xs : List X) (x : X) → AllByRecursion P xs → find p xs ≡ Some x → P x × (p x ≡ true)
 found P p [] x all is = absurd cc
 found {X} P p (y ∷ xs) x all is = by (p y) refl is (λ later. found P p xs x all.1 later)
   where

@@ -30,7 +30,7 @@ use Rattle.device_laws.specs.Showings.{Showing, flight_ends, is_flight, nothing_
 use Rattle.device_laws.specs.Standing.{AreLeft, LeavesPictures, LeavesPicturesBy, Standing, other_pictures, pictures_left}
 
 -- what a filter leaves
-all_filtered : {X : Type 0} (P Q : X → Type 0) (q : X → Bool) (xs : List X) → ((x : X) → P x → q x ≡ true → Q x) → AllByRecursion P xs → AllByRecursion Q (filter q xs)
+pub all_filtered : {X : Type 0} (P Q : X → Type 0) (q : X → Bool) (xs : List X) → ((x : X) → P x → q x ≡ true → Q x) → AllByRecursion P xs → AllByRecursion Q (filter q xs)
 all_filtered P Q q [] more all = tt
 all_filtered {X} P Q q (x ∷ xs) more all = by (q x) refl (all_filtered P Q q xs more all.1)
   where
@@ -60,14 +60,14 @@ find_joined {X} p (x ∷ xs) ys any = by (p x) any (find_joined p xs ys)
     by false any rest = rest any
 
 -- phases, and what is there
-phase_shown : (past : Past) (h : ℕ) → phase_at past h ≡ (showing_at past.state h).phase
+pub phase_shown : (past : Past) (h : ℕ) → phase_at past h ≡ (showing_at past.state h).phase
 phase_shown past h = by (object_at past.state h)
   where
     by : (x : Option Object) → option_map_or (λ (o : Object). o.phase) x Empty ≡ (option_map_or showing_of x nothing_shown).phase
     by None = refl
     by (Some o) = refl
 
-there_if : (past : Past) (h t : ℕ) → (phase_at past h ≡ Done t) ⊎ (phase_at past h ≡ Flight t) → is_some (object_at past.state h) ≡ true
+pub there_if : (past : Past) (h t : ℕ) → (phase_at past h ≡ Done t) ⊎ (phase_at past h ≡ Flight t) → is_some (object_at past.state h) ≡ true
 there_if past h t = by (object_at past.state h)
   where
     by : (x : Option Object) → (option_map_or (λ (o : Object). o.phase) x Empty ≡ Done t) ⊎ (option_map_or (λ (o : Object). o.phase) x Empty ≡ Flight t) → is_some x ≡ true
@@ -75,7 +75,7 @@ there_if past h t = by (object_at past.state h)
     by None (inr is) = absurd cc
     by (Some o) is = refl
 
-phase_over : (history : History) (e : Entry) (h : ℕ) → is_some (object_at (after (history ++ e ∷ [])).state h) ≡ true →
+pub phase_over : (history : History) (e : Entry) (h : ℕ) → is_some (object_at (after (history ++ e ∷ [])).state h) ≡ true →
     phase_at (after (history ++ e ∷ [])) h ≡ (showing_after (length history + 1) e h (showing_at (after history).state h)).phase
 phase_over history e h there = phase_shown (after (history ++ e ∷ [])) h ∙ ap (λ (x : Showing). x.phase) (shows_after history e h there)
 

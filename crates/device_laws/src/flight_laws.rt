@@ -1,6 +1,7 @@
 //! What entries make of the flights that a device keeps: each law is the contract of a function that
 //! does nothing.
-ghost use Rattle.std.specs.Prelude.{◌≡◌, ◌==◌, ◌||◌, ◌+◌, ◌++◌, ◌∷◌, [], ℕ, Bool, List, Some, false, length, map, true};
+ghost use Rattle.std.specs.Prelude.{◌≡◌, ◌==◌, ◌||◌, ◌+◌, ◌++◌, ◌∷◌, [], ℕ, Bool, List, None, Some, false, length, map, true};
+ghost use Rattle.std.specs.Option.{is_some};
 ghost use Rattle.dev_types.specs.declared.data_types.DataType.{DataType};
 ghost use Rattle.dev_types.specs.declared.handles.Channel.{Channel};
 ghost use Rattle.flight_books.specs.Sweeps.{notes_of};
@@ -12,8 +13,8 @@ ghost use Rattle.seq_model.specs.Histories.{History, frame_at};
 ghost use Rattle.seq_model.specs.Legal.{Legal};
 ghost use Rattle.seq_model.specs.Life.{has};
 ghost use Rattle.seq_model.specs.Refusals.{mapped_at, phase_at};
-ghost use Rattle.seq_model.specs.State.{Flight, flights};
-ghost use Rattle.seq_model.specs.Steps.{after};
+ghost use Rattle.seq_model.specs.State.{Flight, flights, object_at};
+ghost use Rattle.seq_model.specs.Steps.{after, is_reached_by};
 ghost use Rattle.seq_model.specs.declared.calls.Call.TheVariants.{DiscardFrame, MapFrame};
 ghost use Rattle.seq_model.specs.declared.calls.Entry.{Entry};
 ghost use Rattle.seq_model.specs.declared.calls.Entry.TheVariants.{Called};
@@ -118,6 +119,22 @@ pub fn flights_are_shown_by_their_frames()
         → has t (after history).state.stopped ≡ false
         → frame_at history t ≡ Some f
         → phase_at (after history) f ≡ Flight t }
+{}
+
+/// All that a flight reached lives as long as the flight: no flight reached what is gone.
+pub fn flights_hold_what_they_reached()
+    ensures lives { (history : History)
+        → Legal history
+        → (t h : ℕ)
+        → has t (flights (after history).state) ≡ true
+        → is_reached_by (after history).reached t h ≡ true
+        → is_some (object_at (after history).state h) ≡ true }
+    ensures gone { (history : History)
+        → Legal history
+        → (t h : ℕ)
+        → has t (flights (after history).state) ≡ true
+        → object_at (after history).state h ≡ None
+        → is_reached_by (after history).reached t h ≡ false }
 {}
 
 /// A channel that is mapped is lent by its entry: its loan has that place for its number.

@@ -20,6 +20,7 @@ use Rattle.flight_books.specs.Kept.{AreBooked, AreBooks, Books, without, without
 use Rattle.flight_books.proofs.CargoLaws.{apart, equal, not_in_front, tickets_above}
 use Rattle.flight_books.proofs.WorkLaws.{at_place}
 use Rattle.flight_books.specs.Rests.{IsUnworked}
+use Rattle.flight_books.specs.Stops.{AreHalted, HaltsBy, StopsAll}
 use Rattle.flight_books.specs.Sweeps.{IsSwept, WasBefore, note_of, notes_of, tickets_of}
 
 above_not : (a b : ℕ) → a < b → (b == a) ≡ false
@@ -83,6 +84,14 @@ gone_by (x ∷ fs) (r ∷ rs) (suc i) f at read rising alone given = by (is_end 
     by true rest = rest
     by false rest = ap (λ b. cond b (Some (looked_at r x)) (find (has_ticket f.ticket) (left_by fs rs))) (apart x.ticket f.ticket (at_place (λ (g : Flying). x.ticket < g.ticket) fs i f at (rising-above x fs rising))) ∙ rest
 
+-- where a flight was stopped at as many tiles as its first seat gave, it waits for those
+waits_for : (f : Flying) → is_stopped f ≡ true → IfSome f.view.stop (λ m. m ≡ length f.view.given) → awaited f ≡ length f.view.given
+waits_for f stopped is = by f.view.stop stopped is
+  where
+    by : (o : Option ℕ) → is_some o ≡ true → IfSome o (λ m. m ≡ length f.view.given) → unwrap_or o (tiles_of (key_at f)) ≡ length f.view.given
+    by None some at = absurd (true≢false (sym some))
+    by (Some m) some at = at
+
 -- of flights that were stopped, those that stay had seats handed out
 stay_shared : {T : Type 0} (fs : List Flying) (cs : List (Cargo T)) (rs : List ℕ) → AreBooked fs cs → AreRead fs rs → AllByRecursion (λ f. is_stopped f ≡ true) fs
     → AllByRecursion (λ f. IsAlone f.view → ⊥) (left_by fs rs)
@@ -91,14 +100,31 @@ stay_shared (f ∷ fs) cs [] of read stopped = absurd read
 stay_shared (f ∷ fs) [] (r ∷ rs) of read stopped = absurd of
 stay_shared (f ∷ fs) (c ∷ cs) (r ∷ rs) of read stopped = by (is_end f r) refl (stay_shared fs cs rs of.1 read.1 stopped.1)
   where
-    waits : (o : Option ℕ) → is_some o ≡ true → IfSome o (λ m. m ≡ length f.view.given) → unwrap_or o (tiles_of (key_at f)) ≡ length f.view.given
-    waits None some is = absurd (true≢false (sym some))
-    waits (Some m) some is = is
-
     by : (b : Bool) → is_end f r ≡ b → AllByRecursion (λ (g : Flying). IsAlone g.view → ⊥) (left_by fs rs)
         → AllByRecursion (λ (g : Flying). IsAlone g.view → ⊥) (cond b (left_by fs rs) (looked_at r f ∷ left_by fs rs))
     by true is rest = rest
-    by false is rest = (λ alone. true≢false (sym (equal r (awaited f) (read.0.alone alone ∙ sym (waits f.view.stop stopped.0 (of.0.alone alone)))) ∙ is), rest)
+    by false is rest = (λ alone. true≢false (sym (equal r (awaited f) (read.0.alone alone ∙ sym (waits_for f stopped.0 (of.0.alone alone)))) ∙ is), rest)
+
+-- so if no seat of any was handed out, none stays
+none_stays : {T : Type 0} (fs : List Flying) (cs : List (Cargo T)) (rs : List ℕ) → AreBooked fs cs → AreRead fs rs → AllByRecursion (λ f. is_stopped f ≡ true) fs
+    → AllByRecursion (λ f. IsAlone f.view) fs → left_by fs rs ≡ []
+none_stays [] cs rs of read stopped alone = refl
+none_stays (f ∷ fs) cs [] of read stopped alone = absurd read
+none_stays (f ∷ fs) [] (r ∷ rs) of read stopped alone = absurd of
+none_stays (f ∷ fs) (c ∷ cs) (r ∷ rs) of read stopped alone =
+    let ends : is_end f r ≡ true = equal r (awaited f) (read.0.alone alone.0 ∙ sym (waits_for f stopped.0 (of.0.alone alone.0))) in
+    ap (λ b. cond b (left_by fs rs) (looked_at r f ∷ left_by fs rs)) ends ∙ none_stays fs cs rs of.1 read.1 stopped.1 alone.1
+
+-- a stop hands out no seat
+halted_alone : (fs gs : List Flying) → AreHalted fs gs → AllByRecursion (λ f. IsAlone f.view) fs → AllByRecursion (λ f. IsAlone f.view) gs
+halted_alone [] [] halted alone = tt
+halted_alone [] (g ∷ gs) halted alone = absurd halted
+halted_alone (f ∷ fs) [] halted alone = absurd halted
+halted_alone (f ∷ fs) (g ∷ gs) halted alone = (by (is_stopped f) halted.0, halted_alone fs gs halted.1 alone.1)
+  where
+    by : (b : Bool) → HaltsBy b f g → IsAlone g.view
+    by true same = subst (λ (h : Flying). IsAlone h.view) (sym same) alone.0
+    by false stop = subst (λ (h : Flying). IsAlone h.view) (sym stop.now) alone.0
 
 -- flights at which nobody worked
 abbrev looked_again : Flying → Flying
@@ -136,6 +162,11 @@ module _ {T : Type 0} where
       → AllByRecursion (λ f. IsAlone f.view → ⊥) new.future.flights
   stopped_stay old new before after books stopped s =
       subst (λ fs. AllByRecursion (λ (f : Flying). IsAlone f.view → ⊥) fs) (sym s.flights) (stay_shared old.future.flights old.cargo s.reads books.cargo s.looks stopped)
+
+  pub alone_end : (first old new : Books T) (before after : History) → AllByRecursion (λ f. IsAlone f.view) first.future.flights → StopsAll first old → AreBooks old → IsSwept old new before after
+      → new.future.flights ≡ []
+  alone_end first old new before after alone stops books s =
+      s.flights ∙ none_stays old.future.flights old.cargo s.reads books.cargo s.looks stops.stopped (halted_alone first.future.flights old.future.flights stops.flights alone)
 
   pub unworked_stay : (old new : Books T) (before after : History) → AllByRecursion IsUnworked old.future.flights → IsSwept old new before after
       → (after ≡ before) × (new ≡ record old { future = record old.future { flights = map (λ f. looked_at f.looked f) old.future.flights } }) × AllByRecursion IsUnworked new.future.flights

@@ -1,6 +1,6 @@
 //! Pictures that are mapped, flights that are lent, and what is kept with a flight.
 ghost use Rattle.std.specs.Prelude.{◌≡◌, ◌↔◌, ◌⊎◌, ◌<◌, Err, None, Some, false, true, IfErr, IfOk, IfSome, IsOk, IsSome, OnErr, OnOk};
-ghost use Rattle.std.specs.Option.{IsSomeAnd, MatchOption};
+ghost use Rattle.std.specs.Option.{IsSomeAnd};
 ghost use Rattle.dev_types.specs.declared.refusals.Refused.TheVariants as refused;
 ghost use Rattle.tile_claims.specs.Seats.{view};
 ghost use Rattle.frame_future.specs.Flights.{Flying, awaited, away, back, is_stopped, IsOfFlight, IsWorked};

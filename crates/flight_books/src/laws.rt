@@ -1,5 +1,5 @@
 //! What the layers above may rely on: each law is the contract of a function that does nothing.
-ghost use Rattle.std.specs.Prelude.{◌≡◌, ℕ, Bool, List, Some, None, length, map, true};
+ghost use Rattle.std.specs.Prelude.{◌≡◌, ◌<◌, ℕ, [], Bool, List, Option, Result, Some, None, length, map, slice_index_or, true};
 ghost use Rattle.std.specs.List.{AllByRecursion, Contains, slice_get};
 ghost use Rattle.std.specs.Option.{IsSomeAnd};
 ghost use Rattle.seq_model.specs.Histories.{History};
@@ -12,7 +12,11 @@ ghost use Rattle.frame_future.specs.Reads.{IsRead};
 ghost use Rattle.flight_books.specs.declared.kept.Cargo.{Cargo as TheCargo};
 ghost use Rattle.flight_books.specs.Kept.{Books, cargo_at, cargo_of, AreBooks, IsBooked};
 ghost use Rattle.flight_books.specs.Rests.{IsUnworked};
+ghost use Rattle.flight_books.specs.Stops.{StopsAll};
 ghost use Rattle.flight_books.specs.Sweeps.{note_of, IsSwept, WasBefore};
+ghost use Rattle.flight_books.specs.Work.{AreAsked, StaysOrAsked};
+ghost use Rattle.flight_books.specs.declared.work.Handed.{Handed as TheHanded};
+ghost use Rattle.dev_types.specs.declared.handles.NoMemory.{NoMemory as NoRoom};
 
 /// Of a flight that began, and of which no seat was handed out nor its first one lent, each look
 /// reads no tile as claimed, and none as given.
@@ -36,12 +40,15 @@ pub fn a_given_flight_ends<T>()
 {}
 
 /// Where all flights are stopped, those that a sweep leaves are flights of which seats were handed
-/// out.
+/// out. So none is left where no seat of any flight was handed out before they were stopped.
 pub fn stopped_flights_that_stay_were_handed_out<T>()
-    ensures { (old new : Books T) (before after : History) → AreBooks old
+    ensures stay { (old new : Books T) (before after : History) → AreBooks old
         → AllByRecursion (λ f. is_stopped f ≡ true) old.future.flights
         → IsSwept old new before after
         → AllByRecursion (λ f. IsAlone f.view → ⊥) new.future.flights }
+    ensures none { (first old new : Books T) (before after : History)
+        → AllByRecursion (λ f. IsAlone f.view) first.future.flights → StopsAll first old
+        → AreBooks old → IsSwept old new before after → new.future.flights ≡ [] }
 {}
 
 /// With each flight something is kept, and with all that is kept there is a flight; both are found
@@ -66,6 +73,16 @@ pub fn a_sweep_keeps_pairs<T>()
         → IsKept old.future → IsSwept old new before after
         → slice_get new.future.flights place ≡ Some g
         → WasBefore old.future.flights old.cargo new.cargo place g }
+{}
+
+/// Where flights are asked for a seat, as [`FlightBooks::hand_out`](crate::FlightBooks::hand_out)
+/// does, each stays as it is or was asked itself.
+pub fn flights_that_are_asked_stay()
+    ensures { (old new : Future) (result : Result (Option TheHanded) NoRoom)
+        → AreAsked old new result
+        → (length new.flights ≡ length old.flights) × (new.pictures ≡ old.pictures)
+        × ((k : ℕ) (d : Flying) → k < length old.flights
+        → StaysOrAsked (slice_index_or old.flights k d) (slice_index_or new.flights k d)) }
 {}
 
 /// A sweep of flights at which nobody worked notes nothing, and changes only what their first seats

@@ -18,8 +18,8 @@ pub use books::{FlightBooks, note_of};
 pub use kept::{Cargo, Over};
 pub use laws::{
     a_begun_flight_reads_nothing, a_given_flight_ends, a_sweep_keeps_pairs,
-    each_flight_has_its_cargo, stopped_flights_that_stay_were_handed_out, unworked_flights_stay,
-    what_was_lent_comes_home,
+    each_flight_has_its_cargo, flights_that_are_asked_stay,
+    stopped_flights_that_stay_were_handed_out, unworked_flights_stay, what_was_lent_comes_home,
 };
 pub use lookups::fresh;
 pub use work::{Handed, Handout};

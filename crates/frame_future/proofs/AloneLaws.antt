@@ -1,13 +1,10 @@
 -- What looks read of a flight that only its first seat worked on.
-use Rattle.std.proofs.Common.{◌≡◌, ◌==◌, ℕ, ◌+◌, Bool, true, List, [], length, Option, None, refl, sym, ap, arith, ◌∙◌}
-use Rattle.std.specs.Option.{unwrap_or}
+use Rattle.std.proofs.Common.{◌≡◌, ◌==◌, ℕ, ◌+◌, Bool, true, List, length, Option, None, sym, ap, arith, ◌∙◌}
 use Rattle.tile_claims.specs.declared.seats.Claims.{Claims}
 use Rattle.tile_claims.specs.declared.seats.Seat.{Seat}
 use Rattle.tile_claims.specs.declared.view.View.{View}
-use Rattle.tile_claims.specs.Parts.{tiles_of}
-use Rattle.tile_claims.specs.Seats.{view}
 use Rattle.tile_claims.specs.Views.{claimed, IsAlone}
-use Rattle.frame_future.specs.Flights.{Flying, awaited, begun, key_at, stopped_at, IsNew, IsSound}
+use Rattle.frame_future.specs.Flights.{Flying, awaited, begun, IsNew, IsSound}
 use Rattle.frame_future.specs.Future.{IsStop}
 use Rattle.frame_future.specs.Reads.{IsRead, is_end}
 

@@ -1,17 +1,16 @@
 -- From the looks of one call to the list of what they read.
-use Rattle.std.proofs.Common.{◌≡◌, ◌⊎◌, ◌==◌, ℕ, zero, suc, ◌+◌, ◌<◌, ◌≤◌, All, Bool, true, false, cond, List, [], ◌∷◌, ◌++◌, length, get_or, take, drop, map, Option, Some, None, if◌then◌else◌, arith, refl, sym, ap, subst, ◌∙◌, inl, inr}
+use Rattle.std.proofs.Common.{◌≡◌, ◌⊎◌, ◌==◌, ℕ, zero, suc, ◌+◌, ◌<◌, ◌≤◌, All, Bool, true, false, cond, List, [], ◌∷◌, ◌++◌, length, get_or, take, drop, map, Option, Some, None, arith, refl, sym, ap, subst, ◌∙◌, inl, inr}
 use Rattle.std.proofs.lemmas.List.{append_assoc, append-nil, get_or-take, length-take-le}
 use Rattle.std.proofs.lemmas.List.Elements.{All-from_recursion, recursion_from_All}
 use Rattle.std.proofs.lemmas.Option.{none-some, slice_get_within}
 use Rattle.std.specs.List.{AllByRecursion, find, slice_get}
 use Rattle.picture_model.proofs.Spheres.{le_or_below}
-use Rattle.tile_claims.specs.Views.{IsAlone}
 use Rattle.frame_future.specs.declared.phase.Ended.{Ended}
 use Rattle.frame_future.specs.Ends.{Ends, NoneEnds, StayOpen, StaysOpen}
-use Rattle.frame_future.specs.Flights.{Flying, awaited, is_stopped, looked_at, HasEnded}
+use Rattle.frame_future.specs.Flights.{Flying, awaited, is_stopped, looked_at}
 use Rattle.frame_future.specs.Future.{Finished, Future, finished, flight_at, has_ticket, IsKept, Rising}
 use Rattle.frame_future.proofs.Finds.{and_some}
-use Rattle.frame_future.specs.Reads.{AreRead, AreSeen, IsEnd, IsRead, ended_by, is_end, left_by, pictures_of}
+use Rattle.frame_future.specs.Reads.{AreRead, AreSeen, ended_by, is_end, left_by, pictures_of}
 
 abbrev ticket_of : Flying → ℕ
 ticket_of f = f.ticket

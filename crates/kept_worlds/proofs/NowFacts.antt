@@ -11,11 +11,12 @@ use Rattle.seq_model.proofs.Prefixes.{prefix_is_legal}
 use Rattle.seq_model.specs.Builds.{is_render_of, is_touching, last_render}
 use Rattle.seq_model.specs.Histories.{History, rendered}
 use Rattle.seq_model.specs.Legal.{Legal}
+use Rattle.seq_model.specs.Life.{has}
 use Rattle.seq_model.specs.State.{scene_objects}
 use Rattle.seq_model.specs.Steps.{after}
 use Rattle.seq_model.specs.declared.calls.Entry.{Entry}
 use Rattle.world_laws.proofs.LastRenders.{reaches_as_last, render_touches_nothing, shows_last_render, world_of_render}
-use Rattle.world_laws.proofs.Reaches.{world_stays}
+use Rattle.world_laws.proofs.Reaches.{reached_is_there, world_stays}
 use Rattle.world_laws.specs.Alike.{Shown, ShowsAsBefore, shown_of}
 use Rattle.kept_worlds.proofs.BirthFacts.{was_there}
 use Rattle.kept_worlds.specs.KeptMaps.{Kept}
@@ -118,6 +119,14 @@ kept_shows_last history reaches w reach legal kept found =
           reached = is.reached ∙ sym (ap (λ (u : Use). u.reach) same);
           stays = shows_last_render history w p legal some (ap (λ (u : Use). u.touched) same ∙ is.untouched) is.here;
         }
+
+-- what it reached is there
+pub kept_reach_lives : (history : History) (reaches : ℕ → Option (List ℕ)) (w : ℕ) (reach : List ℕ) (h : ℕ) → Legal history → AreKept (is_there history) history reaches → reaches w ≡ Some reach →
+    has h reach ≡ true → is_there history h ≡ true
+kept_reach_lives history reaches w reach h legal kept found is =
+    let one : IsKeptBy (is_there history w) (last_use history w) reach = kept_is (is_there history w) (last_use history w) reach (sym (kept w) ∙ found) in
+    let now : visited (walk (scene_objects (after history).state) w) ≡ reach = reaches_as_last history w one.of legal one.is_last one.untouched one.here ∙ sym one.reached in
+    ap is_some (reached_is_there (after history).state w h (ap (has h) now ∙ is)).1
 
 -- a render of a kept world
 pub again_known : (history : History) (actor f world : ℕ) (reaches : ℕ → Option (List ℕ)) → Legal history → world_of (after history).state f ≡ Some world → is_some (reaches world) ≡ true →

@@ -5,6 +5,7 @@ ghost use Rattle.past_laws.specs.Worlds.{render_of, world_of};
 ghost use Rattle.seq_model.specs.Builds.{is_touching};
 ghost use Rattle.seq_model.specs.Histories.{History, rendered};
 ghost use Rattle.seq_model.specs.Legal.{Legal};
+ghost use Rattle.seq_model.specs.Life.{has};
 ghost use Rattle.seq_model.specs.Steps.{after};
 ghost use Rattle.seq_model.specs.declared.calls.Entry.{Entry};
 ghost use Rattle.world_laws.specs.Alike.{Shown};
@@ -34,7 +35,7 @@ pub fn kept_worlds_stay()
         → AreKept (is_there (history ++ e ∷ [])) (history ++ e ∷ []) reaches }
 {}
 
-/// A world is kept no longer than it lives. It shows now, and reaches, what it did at its last
+/// A world is kept no longer than it lives, and all that it reached lives with it. It shows now, and reaches, what it did at its last
 /// render; and what showed it before an entry over which it is kept shows it after the entry: so
 /// what was prepared of it at its last render is what would be prepared of it now.
 pub fn kept_worlds_show_what_is_there()
@@ -42,6 +43,12 @@ pub fn kept_worlds_show_what_is_there()
         → AreKept (is_there history) history reaches
         → is_some (reaches w) ≡ true
         → is_there history w ≡ true }
+    ensures reached { (history : History) (reaches : ℕ → Option (List ℕ)) (w : ℕ) (reach : List ℕ) (h : ℕ)
+        → Legal history
+        → AreKept (is_there history) history reaches
+        → reaches w ≡ Some reach
+        → has h reach ≡ true
+        → is_there history h ≡ true }
     ensures last { (history : History) (reaches : ℕ → Option (List ℕ)) (w : ℕ) (reach : List ℕ)
         → Legal history
         → AreKept (is_there history) history reaches

@@ -6,6 +6,7 @@ pub mod Given
 pub mod Standings
 pub mod Starts
 pub mod ParameterLoanFacts
+pub mod Places
 pub mod ReachLaws
 pub mod Reaches
 pub mod Rested

@@ -1,3 +1,4 @@
 pub mod Carrying
+pub mod Objects
 pub mod ParameterLoans
 pub mod Resting

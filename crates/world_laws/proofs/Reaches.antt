@@ -220,14 +220,18 @@ scene_has s w there = ap is_some (at_map scene_object w s.objects) ∙ of (objec
     of None is = absurd cc
     of (Some o) is = refl
 
--- what was reached was there
+-- what is reached is there
+pub reached_is_there : (s : State) (w k : ℕ) → has k (visited (walk (scene_objects s) w)) ≡ true → (o : Object) × (object_at s k ≡ Some o)
+reached_is_there s w k is =
+    let found : (v : Visit) × ((v.handle ≡ k) × (scene_object_at (scene_objects s) v.handle ≡ Some v.object)) =
+    visit_of (λ v. scene_object_at (scene_objects s) v.handle ≡ Some v.object) k (walk (scene_objects s) w) is (visits_are_objects (scene_objects s) w) in
+    let there : (q : Object) × ((object_at s k ≡ Some q) × (scene_object q ≡ found.0.object)) = state_has s k found.0.object (ap (scene_object_at (scene_objects s)) (sym found.1.0) ∙ found.1.1) in
+    (there.0, there.1.0)
+
 reached_is_used : (history : History) (w k : ℕ) → has k (visited (walk (scene_objects (after history).state) w)) ≡ true → k < (after history).state.next
 reached_is_used history w k is =
-    let found : (v : Visit) × ((v.handle ≡ k) × (scene_object_at (scene_objects (after history).state) v.handle ≡ Some v.object)) =
-    visit_of (λ v. scene_object_at (scene_objects (after history).state) v.handle ≡ Some v.object) k (walk (scene_objects (after history).state) w) is (visits_are_objects (scene_objects (after history).state) w) in
-    let there : (q : Object) × ((object_at (after history).state k ≡ Some q) × (scene_object q ≡ found.0.object)) =
-    state_has (after history).state k found.0.object (ap (scene_object_at (scene_objects (after history).state)) (sym found.1.0) ∙ found.1.1) in
-    (at_within k 1 (after history).state.next (after history).state.objects there.0 (rises history) there.1.0).1
+    let there : (o : Object) × (object_at (after history).state k ≡ Some o) = reached_is_there (after history).state w k is in
+    (at_within k 1 (after history).state.next (after history).state.objects there.0 (rises history) there.1).1
 
 pub world_stays : (history further : History) (w : ℕ) → Legal (history ++ further) → All (λ e. is_touching (visited (walk (scene_objects (after history).state) w)) e ≡ false) further →
     is_some (object_at (after history).state w) ≡ true → is_some (object_at (after (history ++ further)).state w) ≡ true →

@@ -1,4 +1,4 @@
-use Rattle.std.proofs.Common.{◌≡◌, None, Some, sym, ap, refl, ◌∙◌}
+use Rattle.std.proofs.Common.{sym, ap, refl, ◌∙◌}
 use Rattle.std.specs.Option.{option_map_or}
 use Rattle.frame_future.specs.Future.{Finished, given_back, is_picture_of, with_picture}
 use Rattle.frame_future.specs.contracts.frames.Frames.{the_view}

@@ -1,0 +1,193 @@
+//! The objects of a device, with room for the ends of all of them.
+ghost use Rattle.std.specs.Prelude.{◌≡◌, ◌+◌, ◌-◌, ◌++◌, ◌<◌, ◌≤◌, ◌^◌, [], IfErr, IfOk, IsSome, OnErr, OnOk, length, true, vec_capacity};
+ghost use Rattle.std.specs.BTreeMap.{is_at};
+ghost use Rattle.std.specs.List.{filter_map};
+ghost use Rattle.std.specs.Map.{keys_of, set_value};
+ghost use Rattle.std.specs.Ordering.{nat_cmp};
+ghost use Rattle.object_store.specs.Gathers.{IsLeft, buried};
+ghost use Rattle.object_store.specs.Kept.{number_at};
+ghost use Rattle.seq_model.specs.Soundness.{IsRanked};
+ghost use Rattle.seq_model.specs.State.{empty, object_at};
+ghost use Rattle.seq_model.specs.Told.{end_of_object, gone};
+ghost use Rattle.object_steps.specs.Carrying.{CanCarry, GivesBack, carried, handed};
+ghost use Rattle.object_steps.specs.Objects.{is_birth};
+
+use crate::array_loans::ArrayLoan;
+use crate::changes::carry_out;
+use dev_types::{Client, Handle, NoMemory};
+use object_store::dead::Dead;
+use object_store::store::Store;
+use seq_model::{Call, Reply};
+use std::alloc::Global;
+use std::marker::Model;
+
+/// The objects of a device, with room for the ends of all of them, so that dying takes no memory.
+#[derive(Drop)]
+pub struct ObjectStore {
+    store: Store,
+    // How many objects there are.
+    count: usize,
+    dead: Dead,
+    // The handles of those that died with the last burial.
+    departed: Vec<Handle>,
+}
+
+impl Model for ObjectStore {
+    ghost use Rattle.std.specs.Prelude.{vec_capacity};
+    ghost use Rattle.object_steps.specs.Objects.{HasPlaces, Objects};
+
+    ghost Value = { Objects };
+
+    ghost view = { λ o. record { stored = o.store; departed = o.departed.items } };
+
+    ghost invariant = { λ o. HasPlaces o.store o.dead o.count (vec_capacity o.departed) };
+}
+
+impl ObjectStore {
+    /// No objects, which takes no memory.
+    pub fn new(alloc: Global) -> ObjectStore
+        ensures state { result.stored.state ≡ empty }
+        ensures public { result.stored.public ≡ [] }
+        ensures holds { result.stored.holds ≡ [] }
+    {
+        ObjectStore {
+            store: Store::new(alloc),
+            count: 0,
+            dead: Dead::new(alloc),
+            departed: Vec::new(alloc),
+        }
+    }
+
+    /// The objects, as they are read.
+    pub fn store(&self) -> &Store
+        ensures { result.now ≡ self.now.stored }
+    {
+        &self.store
+    }
+
+    /// The handles of the objects that died with the last burial, by rising handle.
+    pub fn departed(&self) -> &[Handle]
+        ensures { result.now ≡ self.now.departed }
+    {
+        &self.departed
+    }
+
+    /// Makes room for one more object, and for its end.
+    ///
+    /// # Errors
+    /// `NoMemory`; all is then as it was.
+    pub fn make_room(&mut self, alloc: Global) -> Result<(), NoMemory>
+        ensures room { OnOk result (self.new ≡ record self.old {
+          stored = record self.old.stored { ready = true };
+        }) }
+        ensures err { OnErr result (self.new ≡ self.old) }
+    {
+        let Some(more) = self.count.checked_add(1) else {
+            return Err(NoMemory);
+        };
+        self.dead.reserve(more)?;
+        reserve_places(&mut self.departed, more)?;
+        self.store.make_room(alloc)
+    }
+
+    /// What the call at a place does to the objects by its reply, as `changes::carry_out`.
+    ///
+    /// # Errors
+    /// `NoMemory`; the loan comes back, and all is as it was.
+    pub fn carry_out(
+        &mut self,
+        alloc: Global,
+        place: u64,
+        call: &Call,
+        reply: &Reply,
+        loan: ArrayLoan,
+    ) -> Result<ArrayLoan, (NoMemory, ArrayLoan)>
+        requires can { CanCarry self.old.stored call.now reply.now }
+        requires brings { GivesBack call.now reply.now loan }
+        ensures ok { OnOk result (self.new ≡ record self.old {
+          stored = carried place call.now reply.now self.old.stored;
+        }) }
+        ensures handed { IfOk result (λ l. l ≡ handed place call.now reply.now
+            self.old.stored.state loan) }
+        ensures returned { IfErr result (λ e. e.1 ≡ loan) }
+        ensures err { OnErr result (self.new ≡ self.old) }
+    {
+        let out = match carry_out(&mut self.store, alloc, place, call, reply, loan) {
+            Ok(out) => out,
+            Err(refused) => return Err(refused),
+        };
+        if is_birth(call, reply) {
+            self.count += 1;
+        }
+        Ok(out)
+    }
+
+    /// Takes away all objects that do not live, and tells the client of their ends by rising handle.
+    /// This takes no memory.
+    pub fn bury<C: Client>(&mut self, client: &mut C)
+        requires ranked { IsRanked self.old.stored.state.objects }
+        requires spare { length (filter_map end_of_object self.old.stored.state.objects) ≤ C.spare
+            client.old }
+        ensures state { self.new.stored.state ≡ buried self.old.stored }
+        ensures left { IsLeft self.old.stored self.new.stored }
+        ensures departed { self.new.departed ≡ keys_of (gone self.old.stored.state
+            self.new.stored.state) }
+        ensures told { C.notices client.new ≡ C.notices client.old ++ filter_map end_of_object
+            (gone self.old.stored.state self.new.stored.state) }
+        ensures room { C.spare client.old ≤ C.spare client.new + length (filter_map end_of_object
+            (gone self.old.stored.state self.new.stored.state)) }
+    {
+        self.departed.clear();
+        self.store.gather(&mut self.dead, &mut self.departed);
+        self.dead.tell(client);
+        self.count -= self.departed.len();
+    }
+
+    /// One flight more holds an object, which is there.
+    pub fn hold(&mut self, h: Handle)
+        requires there { IsSome (object_at self.old.stored.state h) }
+        requires few { number_at self.old.stored.holds h < 2 ^ 40 }
+        ensures { self.new ≡ record self.old {
+          stored = record self.old.stored {
+            holds = set_value (is_at (nat_cmp h)) self.old.stored.holds
+                (number_at self.old.stored.holds h + 1);
+          };
+        } }
+    {
+        self.store.hold(h);
+    }
+
+    /// One flight less holds an object.
+    pub fn unhold(&mut self, h: Handle)
+        requires { 1 ≤ number_at self.old.stored.holds h }
+        ensures { self.new ≡ record self.old {
+          stored = record self.old.stored {
+            holds = set_value (is_at (nat_cmp h)) self.old.stored.holds
+                (number_at self.old.stored.holds h - 1);
+          };
+        } }
+    {
+        self.store.unhold(h);
+    }
+}
+
+/// Whether a call makes an object by its reply.
+fn is_birth(call: &Call, reply: &Reply) -> bool
+    ensures { result ≡ is_birth call.now reply.now }
+{
+    matches!(reply, Reply::Made(_))
+        && matches!(
+            call,
+            Call::NewObject { .. } | Call::NewArray { .. } | Call::UnmapParameterArray { .. }
+        )
+}
+
+/// Makes room for so many handles, in all.
+fn reserve_places(handles: &mut Vec<Handle>, places: usize) -> Result<(), NoMemory>
+    ensures items { handles.new.items ≡ handles.old.items }
+    ensures room { OnOk result (places ≤ vec_capacity handles.new) }
+    ensures grows { vec_capacity handles.old ≤ vec_capacity handles.new }
+{
+    handles.reserve(places)?;
+    Ok(())
+}
