@@ -6,7 +6,7 @@ use Rattle.object_store.specs.Kept.{Stored, number_at}
 use Rattle.object_store.specs.Parts.{at, keyed}
 use Rattle.object_store.proofs.Keyed.{at_keyed}
 use Rattle.object_steps.specs.Resting.{Follows, IsAtRest, KeepsReferences, reaches}
-use Rattle.object_steps.proofs.ReachLaws.{references_stay}
+use Rattle.object_steps.proofs.ReachLaws.{reaches_of_a_finish, reaches_of_a_leave, references_stay}
 use Rattle.std.specs.Prelude.{if◌then◌else◌}
 use Rattle.seq_model.specs.Histories.{History, public}
 use Rattle.seq_model.specs.Legal.{Legal}
