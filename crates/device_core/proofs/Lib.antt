@@ -2,5 +2,7 @@
 pub mod EndFacts
 pub mod FollowFacts
 pub mod HoldFacts
+pub mod KeptFacts
 pub mod LookFacts
+pub mod NotedFacts
 pub mod SeenFacts

@@ -1,5 +1,5 @@
 -- What contracts see of the parts of a device, and what always holds of them.
-use Rattle.std.specs.Prelude.{◌≡◌, ℕ, if◌then◌else◌}
+use Rattle.std.specs.Prelude.{◌≡◌, ◌≤◌, ℕ, length, if◌then◌else◌}
 use Rattle.std.specs.List.{AllByRecursion}
 use Rattle.dev_types.specs.Counting.{times}
 use Rattle.flight_books.specs.Kept.{Books}
@@ -38,8 +38,10 @@ scene_of_load l = scene_shown l.prepared l.view
 abbrev pub shown_by : World → Shown
 shown_by w = record { primitives = w.primitives; lights = w.lights }
 
--- what is kept with a flight is each object that its render reached, once, and its scene is that of the render, within the limits of pictures
+-- what is kept with a flight, whose render stands in the history, is each object that the render reached, once; and its scene is that of the
+-- render, within the limits of pictures
 pub record IsLoaded (history : History) (c : Cargo Load) : Type 0 where
+  pub early : c.ticket ≤ length history
   pub reach : (h : ℕ) → times h c.kept.reach.items ≡ (if is_reached_by (after history).reached c.ticket h then 1 else 0)
   pub scene : scene_of_load c.kept ≡ scene_at history c.ticket
   pub within : IsSceneWithin (scene_of_load c.kept)

@@ -32,7 +32,7 @@ use Rattle.device_laws.specs.Renders.{Renders, ShowsRender}
 use Rattle.device_laws.specs.Standing.{Standing}
 
 -- what a longer history has at an earlier place
-scene_early : (history further : History) (t : ℕ) → t ≤ length history → scene_at (history ++ further) t ≡ scene_at history t
+pub scene_early : (history further : History) (t : ℕ) → t ≤ length history → scene_at (history ++ further) t ≡ scene_at history t
 unfolding scene_at
 scene_early history further t less =
     ap (λ s. scene (scene_objects s) (unwrap_or (frame_at (history ++ further) t) 0)) (state_early history further t (omega (arith, less)))
