@@ -5,4 +5,5 @@ pub mod HoldFacts
 pub mod KeptFacts
 pub mod LookFacts
 pub mod NotedFacts
+pub mod RoomFacts
 pub mod SeenFacts

@@ -2,7 +2,7 @@
 use Rattle.std.proofs.Common.{◌≡◌, ◌∙◌, ◌⊎◌, inl, inr, ℕ, ◌+◌, ◌<◌, ◌==◌, ◌&&◌, ◌||◌, Bool, true, false, not, cond, List, [], ◌∷◌, ◌++◌, Option, Some, None, map, refl, sym, ap, ap₂, subst, arith}
 use Rattle.std.specs.List.{AllByRecursion, filter}
 use Rattle.std.specs.Map.{keys_of}
-use Rattle.std.specs.Option.{MatchOption, is_some, option_and_then, option_map, option_map_or}
+use Rattle.std.specs.Option.{MatchOption, is_some, option_and_then, option_map, option_map_or, unwrap_or}
 use Rattle.std.proofs.lemmas.List.{map-append}
 use Rattle.std.proofs.Common.{length, length-append, ◌≤◌}
 use Rattle.dev_types.specs.Counting.{times}
@@ -13,15 +13,15 @@ use Rattle.flight_books.proofs.CargoLaws.{apart, equal}
 use Rattle.frame_future.specs.Flights.{Flying}
 use Rattle.frame_future.specs.Future.{Rising}
 use Rattle.frame_future.specs.declared.phase.Ended.{Ended}
-use Rattle.object_store.specs.Kept.{CountsItsObjects, Stored}
+use Rattle.object_store.specs.Kept.{CountsItsObjects, Stored, number_at}
 use Rattle.object_store.specs.Gathers.{IsLeft, buried}
 use Rattle.object_store.specs.Parts.{at}
 use Rattle.object_steps.specs.Resting.{Follows, IsAtRest}
-use Rattle.seq_model.specs.Histories.{History, rendered}
+use Rattle.seq_model.specs.Histories.{History, frame_at, rendered}
 use Rattle.seq_model.specs.Legal.{Legal}
 use Rattle.seq_model.specs.Life.{has}
 use Rattle.seq_model.specs.Steps.{Past, after, change, end_flight, end_flights, is_reached_by, next_place, step, with_reach}
-use Rattle.seq_model.specs.State.{Done, Empty, State, object_at, scene_objects}
+use Rattle.seq_model.specs.State.{Done, Empty, Object, State, object_at, scene_objects}
 use Rattle.seq_model.specs.Builds.{builds, is_touching}
 use Rattle.seq_model.proofs.Afters.{after_more}
 use Rattle.object_store.proofs.Keyed.{keys_keyed}
@@ -29,7 +29,7 @@ use Rattle.past_laws.specs.Worlds.{last_use, wants_build, world_of}
 use Rattle.past_laws.proofs.WorldFacts.{builds_more}
 use Rattle.device_laws.proofs.RenderFacts.{scene_early}
 use Rattle.seq_model.specs.declared.calls.Entry.{Entry}
-use Rattle.device_laws.specs.Flown.{Flown, IsNoted, LetsNotes, Run, note_of_run, runs_of, tickets_in}
+use Rattle.device_laws.specs.Flown.{Flown, IsNoted, IsRun, LetsNotes, Run, note_of_run, runs_of, tickets_in}
 use Rattle.device_laws.proofs.SweepFacts.{one_noted, tickets_of_runs}
 use Rattle.device_laws.proofs.StandingFacts.{found}
 use Rattle.device_core.specs.AllParts.{AreParts, Inside, IsLoaded, shown_by}
@@ -39,7 +39,10 @@ use Rattle.kept_worlds.proofs.NowFacts.{shown_over}
 use Rattle.world_laws.specs.Alike.{shown_of}
 use Rattle.world_snapshot.specs.Worlds.{World}
 use Rattle.device_core.specs.declared.loads.Load.{Load}
-use Rattle.device_core.proofs.FollowFacts.{note, noted_follows, once}
+use Rattle.device_core.proofs.FollowFacts.{note, noted_follows, once, was_held}
+use Rattle.device_core.specs.Ends.{IsOwn}
+use Rattle.device_laws.proofs.FlownFacts.{middle, own_flight}
+use Rattle.device_laws.specs.Showings.{is_flight, nothing_shown, showing_at, showing_of}
 use Rattle.device_core.specs.Graves.{all_but_those, unless_dead}
 use Rattle.device_core.specs.Holds.{held_less}
 use Rattle.kept_worlds.specs.KeptMaps.{Kept, kept_at, reach_at, shown_at}
@@ -132,6 +135,41 @@ unfolding change end_flights
 same_keys place true t s = keys_keyed (λ _ o. end_flight t Empty o) s.objects
 same_keys place false t s = keys_keyed (λ _ o. end_flight t (Done t) o) s.objects
 
+-- the flight that is over, of parts of which all holds
+module _ (old : Inside) (e : Ended) (c : Cargo Load) (left : List Flying) (p : AreParts old) (rising : Rising (map (λ f. f.ticket) old.flights.future.flights))
+    (over : IsOver old.flights left e c) (found_ : cargo_at old.flights.cargo e.ticket ≡ Some c) where
+  pub noted : IsNoted (old.history ++ note e.left e.ticket ∷ []) (runs_of left)
+  noted = end_noted old.history old.flights.future.flights left p.rest.legal p.lets p.flown rising e over.run over.without over.ticket over.stopped
+
+  pub reached : (h : ℕ) → times h c.kept.reach.items ≡ once old.history e.ticket h
+  reached h = (found (IsLoaded old.history) (is_of e.ticket) old.flights.cargo c p.loaded found_).0.reach h ∙ ap (λ t. once old.history t h) over.cargo
+
+  -- it holds what it reached
+  pub holds_it : (h : ℕ) → times h c.kept.reach.items ≤ number_at old.objects.holds h
+  holds_it = was_held old.objects old.history e.left e.ticket c.kept.reach.items p.rest noted.legal reached
+
+  -- and no frame but its own is in flight with its ticket
+  pub own_frame : IsOwn old.objects.state e.ticket c.frame
+  own_frame k flies =
+      let mine : frame_at old.history e.ticket ≡ Some k = own_flight old.history e.ticket k (sym (shown_phase (object_at (after old.history).state k))
+      ∙ ap (λ (s : State). is_flight e.ticket (showing_at s k).phase) (sym p.rest.state) ∙ flies) in
+      let runs : IsRun old.history over.run = middle (IsRun old.history) over.without.before over.run over.without.behind (subst (AllByRecursion (IsRun old.history)) over.without.there p.flown.each) in
+      some_is (sym mine ∙ ap (frame_at old.history) (sym over.ticket) ∙ runs.frame) ∙ over.frame
+    where
+      shown_phase : (o : Option Object) → is_flight e.ticket (option_map_or showing_of o nothing_shown).phase ≡ is_flight e.ticket (option_map_or (λ o. o.phase) o Empty)
+      shown_phase None = refl
+      shown_phase (Some o) = refl
+
+      some_is : {k f : ℕ} → Some k ≡ Some f → k ≡ f
+      some_is {k} same = ap (λ o. unwrap_or o k) same
+
+  -- with the note the store is one entry further
+  pub follows : (moved : Stored)
+      → moved ≡ record old.objects { state = change (next_place (after old.history)) (note e.left e.ticket) old.objects.state; holds = held_less c.kept.reach.items old.objects.holds }
+      → Follows moved old.history (note e.left e.ticket)
+  follows moved moves = subst (λ s. Follows s old.history (note e.left e.ticket)) (sym moves)
+      (noted_follows old.objects old.history e.left e.ticket c.kept.reach.items p.rest noted.legal reached)
+
 -- all that holds of the parts holds once the end of a flight is noted, and what nothing holds any more is gone
 module _ (old new : Inside) (e : Ended) (c : Cargo Load) (left : List Flying) (moved : Stored) (dead : List ℕ) (p : AreParts old) (rising : Rising (map (λ f. f.ticket) old.flights.future.flights))
     (over : IsOver old.flights left e c) (found_ : cargo_at old.flights.cargo e.ticket ≡ Some c)
@@ -142,18 +180,11 @@ module _ (old new : Inside) (e : Ended) (c : Cargo Load) (left : List Flying) (m
     (forgotten : (w : ℕ) → kept_at new.worlds w ≡ unless_dead dead w (kept_at old.worlds w))
     (known : (history : History) (there : ℕ → Bool) → AreKept there history (reach_at old.worlds) → AreKept (all_but_those dead there) history (reach_at new.worlds))
     (same : new.builds ≡ old.builds) where
-  noted : IsNoted (old.history ++ note e.left e.ticket ∷ []) (runs_of left)
-  noted = end_noted old.history old.flights.future.flights left p.rest.legal p.lets p.flown rising e over.run over.without over.ticket over.stopped
-
-  loaded : IsLoaded old.history c
-  loaded = (found (IsLoaded old.history) (is_of e.ticket) old.flights.cargo c p.loaded found_).0
-
-  follows : Follows moved old.history (note e.left e.ticket)
-  follows = subst (λ s. Follows s old.history (note e.left e.ticket)) (sym moves)
-      (noted_follows old.objects old.history e.left e.ticket c.kept.reach.items p.rest noted.legal (λ h. loaded.reach h ∙ ap (λ t. once old.history t h) over.cargo))
+  ends : IsNoted (old.history ++ note e.left e.ticket ∷ []) (runs_of left)
+  ends = noted old e c left p rising over found_
 
   pub rests_after : IsAtRest new.objects (old.history ++ note e.left e.ticket ∷ [])
-  rests_after = rests old.history (note e.left e.ticket) moved follows new.objects counted_moved counted is_left is_buried
+  rests_after = rests old.history (note e.left e.ticket) moved (follows old e c left p rising over found_ moved moves) new.objects counted_moved counted is_left is_buried
 
   moved_keys : keys_of moved.state.objects ≡ keys_of (after old.history).state.objects
   moved_keys = ap (λ (s : Stored). keys_of s.state.objects) moves ∙ same_keys (next_place (after old.history)) e.left e.ticket old.objects.state
@@ -189,13 +220,13 @@ module _ (old new : Inside) (e : Ended) (c : Cargo Load) (left : List Flying) (m
   pub parts_after : AreParts new
   parts_after = record {
     rest = subst (IsAtRest new.objects) (sym grown) rests_after;
-    flown = subst (λ fs. Flown new.history (runs_of fs)) (sym flights) (subst (λ h. Flown h (runs_of left)) (sym grown) noted.flown);
+    flown = subst (λ fs. Flown new.history (runs_of fs)) (sym flights) (subst (λ h. Flown h (runs_of left)) (sym grown) ends.flown);
     loaded = subst (AllByRecursion (IsLoaded new.history)) (sym cargo)
         (subst (λ h. AllByRecursion (IsLoaded h) (without e.ticket old.flights.cargo)) (sym grown)
         (others_loaded (IsLoaded old.history) (IsLoaded (old.history ++ note e.left e.ticket ∷ [])) (loaded_later old.history e.left e.ticket) e.ticket old.flights.cargo p.loaded));
-    lets = subst LetsNotes (sym grown) noted.lets;
+    lets = subst LetsNotes (sym grown) ends.lets;
     kept = subst (λ h. AreKept (is_there h) h (reach_at new.worlds)) (sym grown) kept_after;
     shown = subst (λ h. AreShown h (shown_at shown_by new.worlds)) (sym grown)
-        (shown_over old.history (note e.left e.ticket) (reach_at new.worlds) (shown_at shown_by new.worlds) noted.legal kept_after both shown_still);
+        (shown_over old.history (note e.left e.ticket) (reach_at new.worlds) (shown_at shown_by new.worlds) ends.legal kept_after both shown_still);
     built = same ∙ p.built ∙ sym (same_builds old.history e.left e.ticket) ∙ ap builds (sym grown);
   }

@@ -22,6 +22,7 @@ impl Parts {
         ensures home { AreHome self.new.flights.future }
         ensures none { MatchOption result (self.new ≡ record self.old { flights = self.new.flights }) (λ _. Unit {0}) }
     {
+        self.flights.frames().are_kept();
         let Over { ended, cargo } = match self.flights.next_ended(after) {
             Some(over) => over,
             None => return None,
@@ -30,7 +31,9 @@ impl Parts {
         self.journal.push_reserved(note_of(&ended));
         end_flight(&mut self.objects, cargo.frame, &ended);
         unhold_all(&mut self.objects, cargo.kept.reach.as_slice());
+        self.objects.counts_its_objects();
         bury(&mut self.objects, &mut self.flights, &mut self.worlds, grave);
+        self.objects.counts_its_objects();
         Some(ticket)
     }
 }
