@@ -15,11 +15,8 @@ use Rattle.seq_model.specs.Steps.{after, change, end_flight, end_flights, is_rea
 use Rattle.seq_model.specs.declared.calls.Entry.{Entry}
 use Rattle.seq_model.specs.declared.calls.Entry.TheVariants.{Finished, Left}
 use Rattle.device_core.specs.Holds.{held_less}
+use Rattle.device_core.specs.Notes.{note}
 use Rattle.device_core.proofs.HoldFacts.{held_less_is}
-
--- the note of a flight that ended, which was stopped or not
-abbrev pub note : Bool → ℕ → Entry
-note stopped t = if stopped then Left t else Finished t
 
 -- whether a flight reached an object, as a number
 abbrev pub once : History → ℕ → ℕ → ℕ

@@ -39,7 +39,8 @@ use Rattle.kept_worlds.proofs.NowFacts.{shown_over}
 use Rattle.world_laws.specs.Alike.{shown_of}
 use Rattle.world_snapshot.specs.Worlds.{World}
 use Rattle.device_core.specs.declared.loads.Load.{Load}
-use Rattle.device_core.proofs.FollowFacts.{note, noted_follows, once, was_held}
+use Rattle.device_core.specs.Notes.{note}
+use Rattle.device_core.proofs.FollowFacts.{noted_follows, once, was_held}
 use Rattle.device_core.specs.Ends.{IsOwn}
 use Rattle.device_laws.proofs.FlownFacts.{middle, own_flight}
 use Rattle.device_laws.specs.Showings.{is_flight, nothing_shown, showing_at, showing_of}

@@ -4,7 +4,7 @@ use Rattle.std.specs.List.{cons_option, filter_map}
 use Rattle.object_store.specs.Ends.{ended, ended_of}
 use Rattle.seq_model.specs.State.{Done, Empty, Object, Phase, State, is_in_flight}
 use Rattle.seq_model.specs.Steps.{change, end_flight, end_flights, set_phase}
-use Rattle.device_core.proofs.FollowFacts.{note}
+use Rattle.device_core.specs.Notes.{note}
 
 module _ (t : ℕ) (phase : Phase) where
   abbrev ends : List (ℕ × Object) → List (ℕ × Object)

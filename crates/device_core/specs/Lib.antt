@@ -3,3 +3,4 @@ pub mod Ends
 pub mod Graves
 pub mod Holds
 pub mod AllParts
+pub mod Notes

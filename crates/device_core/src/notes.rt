@@ -3,6 +3,7 @@ ghost use Rattle.std.specs.Prelude.{◌≡◌, ◌<◌, length};
 ghost use Rattle.std.specs.Option.{MatchOption};
 ghost use Rattle.frame_future.specs.Future.{AreHome};
 ghost use Rattle.device_core.specs.Graves.{HasRoomFor, IsEmpty};
+ghost use Rattle.device_core.specs.Notes.{IsNoted};
 
 use crate::burials::bury;
 use crate::ends::end_flight;
@@ -20,7 +21,8 @@ impl Parts {
         requires room { HasRoomFor self.old.objects.state.objects grave.old }
         requires place { length self.old.history < self.old.room }
         ensures home { AreHome self.new.flights.future }
-        ensures none { MatchOption result (self.new ≡ record self.old { flights = self.new.flights }) (λ _. Unit {0}) }
+        ensures noted { MatchOption result (self.new ≡ record self.old { flights = self.new.flights }) (IsNoted self.old self.new grave.new) }
+        ensures nothing_died { MatchOption result (grave.new ≡ grave.old) (λ _. Unit {0}) }
     {
         self.flights.frames().are_kept();
         let Over { ended, cargo } = match self.flights.next_ended(after) {

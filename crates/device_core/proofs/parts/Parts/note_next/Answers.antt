@@ -16,7 +16,12 @@ use Rattle.device_laws.specs.Flown.{Flown, runs_of}
 use Rattle.device_core.specs.AllParts.{AreParts, Inside, IsLoaded}
 use Rattle.device_core.specs.Holds.{held_less}
 use Rattle.device_core.specs.declared.loads.Load.{Load}
-use Rattle.device_core.proofs.FollowFacts.{note}
+use Rattle.device_core.specs.Notes.{IsNoted, note}
+use Rattle.object_steps.proofs.Rested.{ends_told}
+use Rattle.seq_model.specs.Told.{end_of_object, gone, status_at}
+use Rattle.seq_model.specs.declared.calls.Entry.TheVariants.{Closed}
+use Rattle.std.specs.List.{filter_map}
+use Rattle.std.specs.Prelude.{Bool, false}
 use Rattle.device_core.proofs.NotedFacts.{follows, holds_it, own_frame, parts_after}
 use Rattle.device_core.proofs.RoomFacts.{noted_count, noted_ended}
 use Rattle.device_core.proofs.SeenFacts.{IsOver, none_seen, one_seen}
@@ -124,3 +129,35 @@ pub returns-clause-home : goal.returns-clause-home
 returns-clause-home c =
     let flights = ap (λ (b : Books Load). b.future.flights) c.bury.ensures.flights ∙ pictures_only c.next_ended.new.self.future c.bury.new.grave.handles.items in
     subst (λ fs. (k : ℕ) (d : Flying) → k < length fs → (slice_index_or fs k d).home ≡ true) (sym flights) c.next_ended.ensures.home
+
+-- a note of a flight refuses nothing, and closes nothing
+no_status : (stopped : Bool) (t : ℕ) → status_at (note stopped t) ≡ []
+no_status true t = refl
+no_status false t = refl
+
+no_close : (stopped : Bool) (t : ℕ) → note stopped t ≡ Closed → ⊥
+no_close true t same = absurd cc
+no_close false t same = absurd cc
+
+pub returns-clause-noted : goal.returns-clause-noted
+returns-clause-noted c =
+    let old : Inside = record { objects = c.self.inside.objects; flights = c.self.inside.flights; worlds = c.self.inside.worlds; history = c.self.inside.journal.items; room = vec_capacity c.self.inside.journal; builds = c.self.inside.builds } in
+    let e = c.in-Some.over.ended in
+    let cargo = c.in-Some.over.cargo in
+    let left = c.next_ended.new.self.future.flights in
+    let kept = c.in-Some.ensures.cargo.0 in
+    let rising = subst (λ (f : Future). Rising (map (λ g. g.ticket) f.flights)) c.frames.ensures.value c.are_kept.ensures.rising in
+    let over : IsOver old.flights left e cargo = one_seen c.args.after old.flights c.next_ended.new.self.future e cargo c.frames.ensures.books c.in-Some.ensures.seen kept in
+    let moves = c.unhold_all.ensures ∙ ap (λ reach. record c.end_flight.new.store { holds = held_less reach c.end_flight.new.store.holds }) c.as_slice.ensures.value
+    ∙ ap (λ (s : Stored). record s { holds = held_less cargo.kept.reach.items s.holds }) (c.end_flight.ensures (next_place (after old.history))) in
+    let follow = follows old e cargo left c.self.invariant rising over kept c.unhold_all.new.store moves in
+    let told = ends_told old.history (note e.left e.ticket) c.unhold_all.new.store follow c.bury.new.objects.state c.bury.ensures.state (no_close e.left e.ticket) in
+    subst
+    (λ (before : Inside). IsNoted before (record { objects = c.bury.new.objects; flights = c.bury.new.flights; worlds = c.bury.new.worlds; history = c.push_reserved.new.self.items; room = vec_capacity c.push_reserved.new.self; builds = c.self.inside.builds }) c.bury.new.grave e.ticket)
+    c.self.view_is
+    (record {
+      stopped = e.left;
+      grown = c.push_reserved.ensures.items ∙ ap (λ n. old.history ++ n ∷ []) c.note_of.ensures;
+      told = c.bury.ensures.notices ∙ sym (told ∙ ap (λ status. status ++ filter_map end_of_object (gone c.unhold_all.new.store.state c.bury.new.objects.state)) (no_status e.left e.ticket));
+      room = c.push_reserved.ensures.capacity;
+    })
