@@ -41,7 +41,7 @@ unfolding take_in
 taken_stopped k name bytes s None = refl
 taken_stopped k name bytes s (Some loan) = refl
 
-or_false : (b : Bool) → (b || false) ≡ b
+pub or_false : (b : Bool) → (b || false) ≡ b
 or_false true = refl
 or_false false = refl
 

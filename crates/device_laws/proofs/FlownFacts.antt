@@ -23,7 +23,7 @@ use Rattle.seq_model.specs.declared.calls.Entry.{Entry}
 use Rattle.seq_model.specs.declared.calls.Entry.TheVariants.{Called, Finished, Left}
 use Rattle.seq_model.specs.declared.calls.Reply.TheVariants as reply
 use Rattle.device_laws.proofs.FlightFacts.{flight_is}
-use Rattle.device_laws.proofs.FlightSteps.{flights_by, stops_after}
+use Rattle.device_laws.proofs.FlightSteps.{flights_by, or_false, stops_after}
 use Rattle.device_laws.specs.FlightMoves.{flies_after, moves_flights, stopped_after}
 use Rattle.device_laws.specs.Flown.{Flown, IsRun, Run, stopped_run, stopped_runs, tickets_in}
 use Rattle.device_laws.specs.Showings.{is_flight}
@@ -54,10 +54,6 @@ or_comm true true = refl
 or_comm true false = refl
 or_comm false true = refl
 or_comm false false = refl
-
-pub or_false : (b : Bool) → (b || false) ≡ b
-or_false true = refl
-or_false false = refl
 
 -- a run after one more entry that stops no flight of its ticket
 pub run_over : (history : History) (e : Entry) (r : Run) → (has r.ticket (after (history ++ e ∷ [])).state.stopped ≡ true → has r.ticket (after history).state.stopped ≡ true) →

@@ -1,7 +1,7 @@
 -- Mapped channels of kept pictures.
-use Rattle.std.proofs.Common.{ℕ, ◌+◌, ◌==◌, ◌≡◌, ◌∙◌, inl, inr, not, Bool, true, false, List, [], ◌∷◌, ◌++◌, Option, Some, None, length, refl, sym, ap, subst, arith}
+use Rattle.std.proofs.Common.{ℕ, ◌+◌, ◌==◌, ◌≡◌, ◌∙◌, inl, inr, not, Bool, true, false, List, [], ◌∷◌, ◌++◌, Option, Some, None, length, refl, sym, ap, arith}
 use Rattle.std.specs.Prelude.{cond, nat_lt}
-use Rattle.std.specs.List.{AllByRecursion, filter, find, list_any}
+use Rattle.std.specs.List.{AllByRecursion, filter, list_any}
 use Rattle.std.specs.Option.{is_some, option_map_or}
 use Rattle.std.proofs.lemmas.Bool.{eqb-true}
 use Rattle.std.proofs.lemmas.Bool.Decides.{nat_tests}
@@ -25,7 +25,7 @@ use Rattle.seq_model.specs.declared.calls.Entry.{Entry}
 use Rattle.seq_model.specs.declared.calls.Entry.TheVariants.{Called, Finished as FinishedAt, Left}
 use Rattle.seq_model.specs.declared.calls.Reply.TheVariants as reply
 use Rattle.device_laws.proofs.ShowingFacts.{shows_after}
-use Rattle.device_laws.proofs.StandingFacts.{both}
+use Rattle.device_laws.proofs.StandingFacts.{both, found}
 use Rattle.device_laws.proofs.StandingSteps.{all_filtered, phase_over, phase_shown, there_if}
 use Rattle.device_laws.specs.Lent.{AreLent, IsLent, loan_in, moves_channels}
 use Rattle.device_laws.specs.Showings.{Showing, is_flight, nothing_shown, showing_after, showing_at, showing_of, with_channels, with_phase}
@@ -92,21 +92,13 @@ none_lent (a ∷ b ∷ c ∷ d ∷ []) long none =
     rw first (rw second (rw third (rw fourth refl)))
 none_lent (a ∷ b ∷ c ∷ d ∷ e ∷ loans) long none = absurd (omega (arith, long))
 
-pub found_lent : (P : Finished → Type 0) (p : Finished → Bool) (ps : List Finished) (q : Finished) → AllByRecursion P ps → find p ps ≡ Some q → P q × (p q ≡ true)
-found_lent P p [] q all is = absurd cc
-found_lent P p (r ∷ ps) q all is = by (p r) refl is (λ later. found_lent P p ps q all.1 later)
-  where
-    by : (b : Bool) → p r ≡ b → cond b (Some r) (find p ps) ≡ Some q → (find p ps ≡ Some q → P q × (p q ≡ true)) → P q × (p q ≡ true)
-    by true passes is rest = let same : r ≡ q = cc in (subst P same all.0, ap p (sym same) ∙ passes)
-    by false fails is rest = rest is
-
 pub nothing_mapped : (history : History) (future : Future) (h : ℕ) → AreLent history future.pictures → mapped_at (after history) h ≡ [] → is_mapped future h ≡ false
 nothing_mapped history future h lent none = by (shown_by future h) refl
   where
     by : (x : Option Finished) → shown_by future h ≡ x → option_map_or is_lent x false ≡ false
     by None is = refl
     by (Some p) is =
-        let one : IsLent history p × (is_picture_of h p ≡ true) = found_lent (IsLent history) (is_picture_of h) future.pictures p lent is in
+        let one : IsLent history p × (is_picture_of h p ≡ true) = found (IsLent history) (is_picture_of h) future.pictures p lent is in
         let mapped : mapped_at (after history) p.frame ≡ [] = ap (mapped_at (after history)) (eqb-true p.frame h one.1) ∙ none in
         none_lent p.loans one.0.count (λ c. one.0.loans c ∙ ap (λ ms. loan_in ms c) mapped)
 

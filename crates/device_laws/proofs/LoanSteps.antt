@@ -20,9 +20,9 @@ use Rattle.seq_model.specs.declared.calls.Entry.{Entry}
 use Rattle.seq_model.specs.declared.calls.Entry.TheVariants.{Called}
 use Rattle.seq_model.specs.declared.calls.Reply.TheVariants as reply
 use Rattle.device_laws.proofs.FutureFacts.{count_next}
-use Rattle.device_laws.proofs.LentFacts.{found_lent, is_mappable, lent_where, mapped_over, mapped_shown}
+use Rattle.device_laws.proofs.LentFacts.{is_mappable, lent_where, mapped_over, mapped_shown}
 use Rattle.device_laws.proofs.PhaseFacts.{map_lends}
-use Rattle.device_laws.proofs.StandingFacts.{both}
+use Rattle.device_laws.proofs.StandingFacts.{both, found}
 use Rattle.device_laws.proofs.StandingSteps.{all_filtered, there_if}
 use Rattle.device_laws.specs.Lent.{AreLent, IsLent, loan_in}
 use Rattle.device_laws.specs.Showings.{Showing, showing_after, showing_at, with_channels}
@@ -146,7 +146,7 @@ pub map_lent : (history : History) (actor f : ℕ) (c : Channel) (width height :
     Legal (history ++ Called actor (MapFrame f c) (reply.Mapped width height t rows) ∷ []) → AreLeft history (Called actor (MapFrame f c) (reply.Mapped width height t rows)) left →
     AllByRecursion (λ p. phase_at (after history) p.frame ≡ Done p.ticket) pictures → count_by (is_picture_of f) pictures ≤ 1 → find (is_picture_of f) pictures ≡ Some p → AreLent history pictures →
     AreLent (history ++ Called actor (MapFrame f c) (reply.Mapped width height t rows) ∷ []) (pictures_left left (replaced (is_picture_of f) (lent_as p c (length history + 1)) pictures))
-map_lent history actor f c width height t rows left p pictures legal leaves shown single found lent =
+map_lent history actor f c width height t rows left p pictures legal leaves shown single is_found lent =
     all_filtered (λ q. left q.frame ≡ true → IsLent (history ++ Called actor (MapFrame f c) (reply.Mapped width height t rows) ∷ []) q)
     (IsLent (history ++ Called actor (MapFrame f c) (reply.Mapped width height t rows) ∷ [])) (λ q. left q.frame) (replaced (is_picture_of f) (lent_as p c (length history + 1)) pictures)
     (λ q is stays. is stays)
@@ -165,4 +165,4 @@ map_lent history actor f c width height t rows left p pictures legal leaves show
     (both (λ p. phase_at (after history) p.frame ≡ Done p.ticket) (IsLent history) pictures shown lent))
   where
     one : IsLent history p × (is_picture_of f p ≡ true)
-    one = found_lent (IsLent history) (is_picture_of f) pictures p lent found
+    one = found (IsLent history) (is_picture_of f) pictures p lent is_found

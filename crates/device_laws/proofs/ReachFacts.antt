@@ -1,6 +1,6 @@
 -- What a flight reached lives as long as the flight.
 use Rattle.std.proofs.Common.{ℕ, ◌+◌, ◌==◌, ◌≡◌, ◌∙◌, ◌⊎◌, inl, inr, not, Bool, true, false, List, [], ◌∷◌, ◌++◌, Option, Some, None, length, refl, sym, ap, subst, arith}
-use Rattle.std.specs.Prelude.{◌&&◌, ◌||◌}
+use Rattle.std.specs.Prelude.{◌||◌}
 use Rattle.std.specs.List.{list_any}
 use Rattle.std.specs.Option.{is_some, unwrap_or}
 use Rattle.std.proofs.lemmas.Bool.{cases_eq, eqb-true, or_cases, or_left, or_right}
@@ -24,7 +24,7 @@ use Rattle.seq_model.specs.declared.calls.Entry.TheVariants.{Called, Closed, Fin
 use Rattle.seq_model.specs.declared.calls.Reply.TheVariants as reply
 use Rattle.kind_tables.specs.Walks.{visited, walk}
 use Rattle.world_laws.proofs.Reaches.{reached_is_there}
-use Rattle.device_laws.proofs.FlightFacts.{still_there}
+use Rattle.device_laws.proofs.FlightFacts.{and_right, still_there}
 use Rattle.device_laws.proofs.FlightSteps.{flights_by}
 use Rattle.device_laws.proofs.PhaseFacts.{root_stays}
 use Rattle.device_laws.specs.FlightMoves.{flies_after}
@@ -36,10 +36,6 @@ any_of p t (u ∷ ts) is passes = by (or_cases (u == t) (has t ts) is) (λ later
     by : ((u == t) ≡ true) ⊎ (has t ts ≡ true) → (has t ts ≡ true → list_any p ts ≡ true) → (p u || list_any p ts) ≡ true
     by (inl here) rest = or_left (p u) (list_any p ts) (ap p (eqb-true u t here) ∙ passes)
     by (inr later) rest = or_right (p u) (list_any p ts) (rest later)
-
-and_right : (a b : Bool) → (a && b) ≡ true → b ≡ true
-and_right true b is = is
-and_right false b is = absurd cc
 
 -- a flight that did not begin just now flew before
 flew_before : (place : ℕ) (e : Entry) (t : ℕ) (flew : Bool) → (place == t) ≡ false → flies_after place e t flew ≡ true → flew ≡ true

@@ -145,3 +145,12 @@ module _ (history : History) (future : Future) (flown : Flown history (runs_of f
           let one : (phase_at (after history) p.frame ≡ Done p.ticket) × (is_picture_of h p ≡ true) = found (λ p. phase_at (after history) p.frame ≡ Done p.ticket) (is_picture_of h) future.pictures p standing.shown shown in
           ap (phase_at (after history)) (sym (eqb-true p.frame h one.1)) ∙ one.0
       by None none None gone = other (phase_at (after history) h) refl none gone
+
+-- nothing is kept where nothing happened
+pub first_flown : Flown [] []
+unfolding after
+first_flown = record { tickets = λ t. refl; each = tt }
+
+pub first_stands : Standing [] [] []
+unfolding after
+first_stands = record { stopped = tt; shown = tt; done = λ h t is. absurd cc }

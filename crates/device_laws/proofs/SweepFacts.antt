@@ -19,6 +19,7 @@ use Rattle.seq_model.specs.Life.{has}
 use Rattle.seq_model.specs.State.{flights}
 use Rattle.seq_model.specs.Steps.{after}
 use Rattle.seq_model.specs.declared.calls.Entry.TheVariants.{Finished, Left}
+use Rattle.device_laws.proofs.FlightFacts.{and_right}
 use Rattle.device_laws.proofs.FlightSteps.{flights_by, stops_after}
 use Rattle.device_laws.proofs.FlownFacts.{middle, run_over, weaker, without_middle}
 use Rattle.device_laws.specs.Flown.{Flown, IsNoted, IsRun, LetsNotes, Run, note_of_run, run_of, runs_of, tickets_in}
@@ -131,10 +132,6 @@ note_flown history done r rest legal apart flown = by r.stopped legal
 
     others : AllByRecursion (IsRun history) (done ++ rest)
     others = without_middle (IsRun history) done r rest flown.each
-
-    and_right : (a b : Bool) → (a && b) ≡ true → b ≡ true
-    and_right true b is = is
-    and_right false b is = absurd cc
 
     by : (b : Bool) → Legal (history ++ cond b (Left r.ticket) (Finished r.ticket) ∷ []) → Flown (history ++ cond b (Left r.ticket) (Finished r.ticket) ∷ []) (done ++ rest)
     by true legal = record {

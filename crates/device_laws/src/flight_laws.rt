@@ -23,6 +23,12 @@ ghost use Rattle.device_laws.specs.FlightMoves.{moves_flights};
 ghost use Rattle.device_laws.specs.Flown.{Flown, IsNoted, LetsNotes, Run, note_of_run, runs_of, stopped_runs, tickets_in};
 ghost use Rattle.device_laws.specs.Standing.{AreLeft, LeavesPictures, Standing, other_pictures, phase_as, pictures_left};
 
+/// Where nothing happened yet, no frame is in flight or done.
+pub fn nothing_is_kept_at_first()
+    ensures flown { Flown [] [] }
+    ensures stands { Standing [] [] [] }
+{}
+
 /// A render that was done begins one flight, whose ticket is its place; its frame is then in flight.
 pub fn renders_begin_a_flight()
     ensures flights { (history : History) (actor f t : ℕ)

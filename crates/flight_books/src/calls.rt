@@ -44,7 +44,6 @@ impl<T> FlightBooks<T> {
             ≡ with_future self.old (with_picture self.old.future (lent_as p channel number)))) }
         ensures unchanged { OnErr result (self.new ≡ self.old) }
     {
-        let _kept = &self.cargo;
         self.frames.map(alloc, frame, channel, number)
     }
 
@@ -60,7 +59,6 @@ impl<T> FlightBooks<T> {
         ensures refused { IfErr result (λ e. (e.0 ≡ refused.NotMapped) × (e.1 ≡ frame)) }
         ensures unchanged { OnErr result (self.new ≡ self.old) }
     {
-        let _kept = &self.cargo;
         self.frames.unmap(frame)
     }
 
@@ -69,7 +67,6 @@ impl<T> FlightBooks<T> {
     pub fn end_loan(&mut self, frame: Handle, channel: Channel)
         ensures { self.new ≡ with_future self.old (loan_ended self.old.future frame channel) }
     {
-        let _kept = &self.cargo;
         self.frames.end_loan(frame, channel);
     }
 
@@ -77,7 +74,6 @@ impl<T> FlightBooks<T> {
     pub fn forget(&mut self, frame: Handle)
         ensures { self.new ≡ with_future self.old (without_picture self.old.future frame) }
     {
-        let _kept = &self.cargo;
         self.frames.forget(frame);
     }
 
@@ -90,7 +86,6 @@ impl<T> FlightBooks<T> {
             × (self.new ≡ with_future self.old (with_flight_at self.old.future ticket g))) }
         ensures home { AreHome self.old.future → AreHome self.new.future }
     {
-        let _kept = &self.cargo;
         self.frames.claimed(ticket)
     }
 
@@ -105,7 +100,6 @@ impl<T> FlightBooks<T> {
         ensures held { IfSome (flight_at self.old.future ticket)
             (λ f. IsOfFlight f result.0 result.1 × (view result.1 ≡ f.view)) }
     {
-        let _kept = &self.cargo;
         self.frames.lend(ticket)
     }
 
@@ -118,7 +112,6 @@ impl<T> FlightBooks<T> {
             (λ f. self.new
             ≡ with_future self.old (with_flight_at self.old.future ticket (back seat f))) }
     {
-        let _kept = &self.cargo;
         self.frames.put_back(ticket, claims, seat);
     }
 

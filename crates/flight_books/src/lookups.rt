@@ -73,8 +73,8 @@ fn tickets_of<T>(cargo: &[Cargo<T>], alloc: Global) -> Result<Vec<u64>, AllocErr
     cargo.iter().map(|kept| kept.ticket).collect(alloc)
 }
 
-/// How many tiles are claimed of claims that a flight may begin with, by a look: none. It may still
-/// begin with them.
+/// How many tiles are claimed of claims that a flight may begin with, by a look: none. A flight may
+/// still begin with them.
 pub fn fresh(claims: &Claims, seat: &mut Seat) -> u64
     requires { IsNew claims.now seat.old }
     ensures none { result ≡ 0 }

@@ -143,6 +143,24 @@ impl ObjectStore {
         self.count -= self.departed.len();
     }
 
+    /// All objects end, and the client is told of their ends by rising handle. This takes no memory.
+    pub fn close<C: Client>(self, client: &mut C)
+        requires { length (filter_map end_of_object self.stored.state.objects) ≤ C.spare client.old }
+        ensures told { C.notices client.new ≡ C.notices client.old ++ filter_map end_of_object
+            self.stored.state.objects }
+        ensures room { C.spare client.old ≤ C.spare client.new + length (filter_map end_of_object
+            self.stored.state.objects) }
+    {
+        let ObjectStore {
+            store,
+            count: _,
+            mut dead,
+            departed: _,
+        } = self;
+        store.close(&mut dead);
+        dead.tell(client);
+    }
+
     /// One flight more holds an object, which is there.
     pub fn hold(&mut self, h: Handle)
         requires there { IsSome (object_at self.old.stored.state h) }

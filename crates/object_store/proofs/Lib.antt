@@ -1,6 +1,7 @@
 pub mod ArrayBirths
 pub mod Births
 pub mod Changes
+pub mod Closings
 pub mod Counted
 pub mod CountFacts
 pub mod DeadOrder

@@ -6,6 +6,7 @@
 #![tactic(auto)]
 
 pub mod account;
+pub mod closing;
 pub mod contents;
 pub mod dead;
 pub mod loans;

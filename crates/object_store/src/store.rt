@@ -14,6 +14,7 @@ ghost use Rattle.dev_types.specs.declared.values.Value.TheVariants as value;
 ghost use Rattle.scene_read.specs.Reading.{lent as lent_block};
 
 use crate::account::{account, public_of, unname_object, unname_times};
+use crate::closing::end_all;
 use crate::contents::{bytes_at, elements_len, name_content, taken_back, unname_content};
 use crate::dead::{Dead, order_handles};
 use crate::loans::{ParameterLoan, is_any_out, loan_with};
@@ -277,6 +278,25 @@ impl Store {
         }
         order_handles(handles);
         dead.order();
+    }
+
+    /// All objects end: the arrays among them, for which there is room among the dead, stand there
+    /// by rising handle. This takes no memory.
+    pub fn close(self, dead: &mut Dead)
+        requires none { dead.old.list ≡ [] }
+        requires room { length (ended self.state.objects) ≤ dead.old.room }
+        ensures dead { dead.new ≡ record dead.old { list = ended self.state.objects } }
+        ensures notices { filter_map notice_of dead.new.list ≡ filter_map end_of_object
+            self.state.objects }
+    {
+        let Store {
+            slots,
+            arrays,
+            counts: _,
+            stopped: _,
+            bound: _,
+        } = self;
+        end_all(&slots, arrays, dead);
     }
 
     /// One more public reference to an object, which has one.
