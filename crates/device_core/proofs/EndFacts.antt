@@ -1,5 +1,5 @@
 -- The end of a flight changes its frame alone.
-use Rattle.std.proofs.Common.{◌≡◌, ◌∙◌, ◌⊎◌, inl, inr, ℕ, Bool, true, false, true≢false, cond, List, [], ◌∷◌, Option, Some, None, map, refl, sym, ap, subst}
+use Rattle.std.proofs.Common.{◌≡◌, ◌∙◌, ◌⊎◌, inl, inr, ℕ, true, false, cond, List, Option, Some, None, refl, sym, ap, subst}
 use Rattle.std.specs.Map.{keys_of}
 use Rattle.std.specs.Option.{option_map, option_map_or}
 use Rattle.std.proofs.lemmas.Bool.{cases_Bool, cases_eq}
@@ -8,7 +8,7 @@ use Rattle.object_store.specs.Parts.{at, keyed}
 use Rattle.object_store.proofs.Keyed.{at_keyed, keys_keyed, rises, same_by_looks}
 use Rattle.seq_model.proofs.Changes.{changed_here, keys_of_changed, others_unchanged}
 use Rattle.seq_model.proofs.Keys.{RisesWithin}
-use Rattle.seq_model.specs.State.{Done, Empty, Object, Phase, State, changed_at, is_in_flight, object_at}
+use Rattle.seq_model.specs.State.{Done, Empty, Object, Phase, State, changed_at, is_in_flight}
 use Rattle.seq_model.specs.Steps.{change, end_flight, end_flights, set_phase}
 use Rattle.seq_model.specs.declared.calls.Entry.{Entry}
 use Rattle.seq_model.specs.declared.calls.Entry.TheVariants.{Finished, Left}

@@ -1,8 +1,6 @@
 -- What a look at flights leaves of their runs.
-use Rattle.std.proofs.Common.{◌≡◌, ◌∙◌, ◌⊎◌, inl, inr, ℕ, Bool, true, false, cond, List, [], ◌∷◌, ◌++◌, map, refl, sym, ap, ap₂, subst}
+use Rattle.std.proofs.Common.{◌≡◌, ◌∙◌, ◌⊎◌, inl, inr, ℕ, true, false, cond, List, [], ◌∷◌, ◌++◌, refl, sym, ap}
 use Rattle.std.proofs.lemmas.Bool.{cases_Bool}
-use Rattle.std.proofs.lemmas.List.{map-append}
-use Rattle.std.proofs.lemmas.List.{append_assoc}
 use Rattle.frame_future.specs.Flights.{Flying, looked_at}
 use Rattle.frame_future.specs.Reads.{AreRead, ended_by, is_end, left_by}
 use Rattle.device_laws.specs.Flown.{Run, run_of, runs_of}

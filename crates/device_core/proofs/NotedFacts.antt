@@ -1,21 +1,18 @@
 -- What always holds of the parts of a device holds once a flight that ended is noted.
-use Rattle.std.proofs.Common.{◌≡◌, ◌∙◌, ◌⊎◌, inl, inr, ℕ, ◌+◌, ◌<◌, ◌==◌, ◌&&◌, ◌||◌, Bool, true, false, not, cond, List, [], ◌∷◌, ◌++◌, Option, Some, None, map, refl, sym, ap, ap₂, subst, arith}
-use Rattle.std.specs.List.{AllByRecursion, filter}
+use Rattle.std.proofs.Common.{◌≡◌, ◌∙◌, ℕ, ◌+◌, ◌<◌, ◌==◌, ◌&&◌, ◌||◌, Bool, true, false, not, cond, List, [], ◌∷◌, ◌++◌, Option, Some, None, map, refl, sym, ap, ap₂, subst, arith}
+use Rattle.std.specs.List.{AllByRecursion}
 use Rattle.std.specs.Map.{keys_of}
 use Rattle.std.specs.Option.{MatchOption, is_some, option_and_then, option_map, option_map_or, unwrap_or}
-use Rattle.std.proofs.lemmas.List.{map-append}
-use Rattle.std.proofs.Common.{length, length-append, ◌≤◌}
+use Rattle.std.proofs.Common.{length-append, ◌≤◌}
 use Rattle.dev_types.specs.Counting.{times}
 use Rattle.flight_books.specs.Kept.{cargo_at, is_of, without}
-use Rattle.flight_books.specs.Sweeps.{note_of_end}
 use Rattle.flight_books.specs.declared.kept.Cargo.{Cargo}
-use Rattle.flight_books.proofs.CargoLaws.{apart, equal}
+use Rattle.flight_books.proofs.CargoLaws.{apart}
 use Rattle.frame_future.specs.Flights.{Flying}
 use Rattle.frame_future.specs.Future.{Rising}
 use Rattle.frame_future.specs.declared.phase.Ended.{Ended}
 use Rattle.object_store.specs.Kept.{CountsItsObjects, Stored, number_at}
 use Rattle.object_store.specs.Gathers.{IsLeft, buried}
-use Rattle.object_store.specs.Parts.{at}
 use Rattle.object_steps.specs.Resting.{Follows, IsAtRest}
 use Rattle.seq_model.specs.Histories.{History, frame_at, rendered}
 use Rattle.seq_model.specs.Legal.{Legal}
@@ -28,7 +25,6 @@ use Rattle.object_store.proofs.Keyed.{keys_keyed}
 use Rattle.past_laws.specs.Worlds.{last_use, wants_build, world_of}
 use Rattle.past_laws.proofs.WorldFacts.{builds_more}
 use Rattle.device_laws.proofs.RenderFacts.{scene_early}
-use Rattle.seq_model.specs.declared.calls.Entry.{Entry}
 use Rattle.device_laws.specs.Flown.{Flown, IsNoted, IsRun, LetsNotes, Run, note_of_run, runs_of, tickets_in}
 use Rattle.device_laws.proofs.SweepFacts.{one_noted, tickets_of_runs}
 use Rattle.device_laws.proofs.StandingFacts.{found}

@@ -1,6 +1,6 @@
 -- The end of a flight leaves how many objects and arrays there are.
-use Rattle.std.proofs.Common.{◌≡◌, ◌∙◌, ℕ, Bool, true, false, cond, List, [], ◌∷◌, Option, Some, None, length, map, ap₂, suc, refl, sym, ap, subst}
-use Rattle.std.specs.List.{cons_option, filter_map}
+use Rattle.std.proofs.Common.{◌≡◌, ℕ, Bool, true, false, cond, List, [], ◌∷◌, length, map, ap₂, suc, refl, ap}
+use Rattle.std.specs.List.{cons_option}
 use Rattle.object_store.specs.Ends.{ended, ended_of}
 use Rattle.seq_model.specs.State.{Done, Empty, Object, Phase, State, is_in_flight}
 use Rattle.seq_model.specs.Steps.{change, end_flight, end_flights, set_phase}

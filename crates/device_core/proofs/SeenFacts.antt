@@ -1,6 +1,5 @@
 -- A flight that a look showed to be over, with what was kept with it, and the runs that are left.
-use Rattle.std.proofs.Common.{◌≡◌, ◌∙◌, ℕ, Bool, false, List, [], ◌∷◌, ◌++◌, map, Option, Some, None, refl, sym, ap, subst}
-use Rattle.std.specs.List.{AllByRecursion}
+use Rattle.std.proofs.Common.{◌≡◌, ◌∙◌, ℕ, Bool, false, List, [], ◌∷◌, ◌++◌, Option, Some, None, refl, sym, ap, subst}
 use Rattle.std.specs.Option.{IsSomeAnd}
 use Rattle.std.proofs.lemmas.List.{append_assoc, map-append}
 use Rattle.flight_books.specs.Kept.{AreBooks, Books, IsBooked, cargo_at}
@@ -8,7 +7,7 @@ use Rattle.flight_books.specs.declared.kept.Cargo.{Cargo}
 use Rattle.flight_books.proofs.PairLaws.{ticket_booked}
 use Rattle.frame_future.specs.Flights.{Flying, awaited, is_stopped, looked_at}
 use Rattle.frame_future.specs.Future.{Future, flight_at}
-use Rattle.frame_future.specs.Reads.{AreRead, AreSeen, ended_by, left_by}
+use Rattle.frame_future.specs.Reads.{AreSeen, ended_by, left_by}
 use Rattle.frame_future.specs.declared.phase.Ended.{Ended}
 use Rattle.device_laws.specs.Flown.{Run, run_of, runs_of}
 use Rattle.device_core.proofs.LookFacts.{IsWithout, none_ended, one_ended}

@@ -20,8 +20,8 @@ use Rattle.world_snapshot.specs.Worlds.{World}
 use Rattle.device_laws.specs.Flown.{Flown, LetsNotes, runs_of}
 use Rattle.device_core.specs.declared.loads.Load.{Load}
 
--- the objects, the flights with what is kept of each, the worlds that are kept, all that happened, for how many entries there is room, and how
--- many worlds were prepared
+-- the objects, the flights with what is kept of each, the worlds that are kept, all that happened,
+-- for how many entries there is room, and how many worlds were prepared
 pub record Inside : Type 0 where
   pub objects : Stored
   pub flights : Books Load
@@ -38,16 +38,17 @@ scene_of_load l = scene_shown l.prepared l.view
 abbrev pub shown_by : World → Shown
 shown_by w = record { primitives = w.primitives; lights = w.lights }
 
--- what is kept with a flight, whose render stands in the history, is each object that the render reached, once; and its scene is that of the
--- render, within the limits of pictures
+-- what is kept with a flight, whose render stands in the history, is each object that the render
+-- reached, once; and its scene is that of the render, within the limits of pictures
 pub record IsLoaded (history : History) (c : Cargo Load) : Type 0 where
   pub early : c.ticket ≤ length history
   pub reach : (h : ℕ) → times h c.kept.reach.items ≡ (if is_reached_by (after history).reached c.ticket h then 1 else 0)
   pub scene : scene_of_load c.kept ≡ scene_at history c.ticket
   pub within : IsSceneWithin (scene_of_load c.kept)
 
--- What always holds: the objects rest where the history led, the flights are those of the history, each loaded as at its render, and a note may
--- follow; exactly the worlds are kept that are there and untouched since their last render, each as it would be prepared now; and the builds are
+-- What always holds: the objects rest where the history led, the flights are those of the history,
+-- each loaded as at its render, and a note may follow; exactly the worlds are kept that are there
+-- and untouched since their last render, each as it would be prepared now; and the builds are
 -- counted
 pub record AreParts (i : Inside) : Type 0 where
   pub rest : IsAtRest i.objects i.history

@@ -13,9 +13,9 @@ use Rattle.device_core.specs.declared.graves.Grave.{Grave}
 abbrev pub note : Bool → ℕ → Entry
 note stopped t = if stopped then Left t else Finished t
 
--- The flight with ticket t was noted: the history grew by that note alone, and the dead that lie in the grave are those that the client is to be
--- told of, in their order
-pub record IsNoted (old new : Inside) (grave : Grave) (t : ℕ) : Type 0 where
+-- The flight with ticket t was noted: the history grew by that note alone, and the dead that lie in
+-- the grave are those that the client is to be told of, in their order
+pub record HasNoted (old new : Inside) (grave : Grave) (t : ℕ) : Type 0 where
   pub stopped : Bool
   pub grown : new.history ≡ old.history ++ note stopped t ∷ []
   pub told : filter_map notice_of grave.dead.list ≡ told_by (after old.history) (note stopped t)

@@ -1,4 +1,5 @@
-//! Objects that nothing holds any more go, and what is known of them is forgotten: the pictures of frames, and what is kept of worlds.
+//! Objects that nothing holds any more go, and what is known of them is forgotten: the pictures of
+//! frames, and what is kept of worlds.
 ghost use Rattle.std.specs.Prelude.{◌≡◌, ℕ, Bool, vec_capacity};
 ghost use Rattle.std.specs.List.{filter_map};
 ghost use Rattle.std.specs.Map.{keys_of};
@@ -18,8 +19,8 @@ use flight_books::FlightBooks;
 use kept_worlds::KeptWorlds;
 use object_store::store::Store;
 
-/// Takes away what nothing holds any more, lists it in the grave, which is empty and has room for all, and forgets its pictures and
-/// what is kept of it.
+/// Takes away what nothing holds any more, lists it in the grave, which is empty and has room for
+/// all, and forgets its pictures and what is kept of it.
 pub(crate) fn bury<T, P: Drop>(
     objects: &mut Store,
     flights: &mut FlightBooks<T>,
@@ -55,7 +56,8 @@ pub(crate) fn forget_pictures<T>(flights: &mut FlightBooks<T>, dead: &[Handle])
     }
 }
 
-/// Drops what is kept of the worlds among the dead. Of the other worlds that are there those are kept that were.
+/// Drops what is kept of the worlds among the dead. Of the other worlds that are there those are
+/// kept that were.
 pub(crate) fn forget_worlds<P: Drop>(worlds: &mut KeptWorlds<P>, dead: &[Handle])
     ensures forgotten { (w : ℕ) → kept_at worlds.new w ≡ unless_dead dead.now w (kept_at worlds.old w) }
     ensures known { (history : History) (there : ℕ → Bool)

@@ -21,7 +21,8 @@ fn is_in_flight(store: &Store, frame: Handle, ticket: u64) -> bool
     }
 }
 
-/// The flight with this ticket, which may be this frame's alone, ends: its frame shows something else.
+/// The flight with this ticket, which may be this frame's alone, ends: its frame shows something
+/// else.
 fn show_end(store: &mut Store, frame: Handle, ticket: u64, shows: Shows)
     requires own { IsOwn store.old.state ticket frame }
     ensures { store.new ≡ record store.old { state = end_flights ticket (phase_of shows) store.old.state } }
@@ -32,7 +33,8 @@ fn show_end(store: &mut Store, frame: Handle, ticket: u64, shows: Shows)
     }
 }
 
-/// Notes the end of a flight, which may be this frame's alone: where it was not stopped, the frame shows its picture.
+/// Notes the end of a flight, which may be this frame's alone: where it was not stopped, the frame
+/// shows its picture.
 pub(crate) fn end_flight(store: &mut Store, frame: Handle, ended: &Ended)
     requires own { IsOwn store.old.state ended.now.ticket frame }
     ensures { (place : ℕ) → store.new ≡ record store.old { state = change place (note_of_end ended.now) store.old.state } }

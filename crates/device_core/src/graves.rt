@@ -5,7 +5,8 @@ use dev_types::{Handle, NoMemory};
 use object_store::dead::Dead;
 use std::alloc::Global;
 
-/// The objects that died with one entry: the arrays whose end is to be told, and the handles of all.
+/// The objects that died with one entry: the arrays whose end is to be told, and the handles of
+/// all.
 #[derive(Drop)]
 pub struct Grave {
     pub(crate) dead: Dead,

@@ -1,4 +1,5 @@
-//! The core of the device: one state for objects, flights and kept worlds, with the journal of what happened.
+//! The core of the device: one state for objects, flights and kept worlds, with the journal of what
+//! happened.
 #![tactic(auto)]
 
 mod burials;

@@ -2,7 +2,8 @@
 use dev_types::Handle;
 use world_snapshot::{Prepared, View};
 
-/// What a flight needs until it is over: what its scene reached, which it keeps alive, and what its tiles are rendered from.
+/// What a flight needs until it is over: what its scene reached, which it keeps alive, and what its
+/// tiles are rendered from.
 #[derive(Drop)]
 pub struct Load {
     /// The objects that its scene reached.

@@ -1,5 +1,4 @@
-use Rattle.std.proofs.Common.{◌≡◌, ◌∙◌, sym, ap}
-use Rattle.object_store.specs.Kept.{Stored}
+use Rattle.std.proofs.Common.{◌∙◌, sym, ap}
 use Rattle.object_store.specs.Phases.{phase_of}
 use Rattle.seq_model.specs.State.{State}
 use Rattle.device_core.proofs.EndFacts.{its_frame_ends, nothing_ends}

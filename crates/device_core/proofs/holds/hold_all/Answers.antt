@@ -1,4 +1,4 @@
-use Rattle.std.proofs.Common.{◌≡◌, ◌+◌, ◌<◌, ◌≤◌, ◌^◌, length, take, subst, sym, arith}
+use Rattle.std.proofs.Common.{◌<◌, ◌^◌, take, subst, sym, arith}
 use Rattle.std.proofs.lemmas.List.{length-take}
 use Rattle.object_store.specs.Kept.{Stored, number_at}
 use Rattle.device_core.proofs.HoldFacts.{held_most}

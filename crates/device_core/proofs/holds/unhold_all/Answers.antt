@@ -1,4 +1,4 @@
-use Rattle.std.proofs.Common.{ap, Some, ◌∙◌, ◌≡◌, ◌+◌, ◌<◌, ◌≤◌, length, take, subst, sym, arith}
+use Rattle.std.proofs.Common.{ap, Some, ◌∙◌, ◌≤◌, take, subst, sym, arith}
 use Rattle.std.proofs.lemmas.Option.{slice_get-get_or}
 use Rattle.object_store.specs.Kept.{Stored, number_at}
 use Rattle.object_store.proofs.MoveFacts.{times_front}

@@ -1,4 +1,4 @@
-use Rattle.std.proofs.Common.{◌≡◌, ◌∙◌, ℕ, ◌≤◌, List, [], ◌∷◌, ◌++◌, Option, Some, None, length, map, refl, sym, ap, subst, arith}
+use Rattle.std.proofs.Common.{◌≡◌, ◌∙◌, ℕ, ◌≤◌, List, [], ◌∷◌, ◌++◌, length, map, refl, sym, ap, subst}
 use Rattle.std.specs.Prelude.{vec_capacity}
 use Rattle.std.specs.List.{AllByRecursion}
 use Rattle.dev_types.specs.Counting.{times}
@@ -16,7 +16,7 @@ use Rattle.device_laws.specs.Flown.{Flown, runs_of}
 use Rattle.device_core.specs.AllParts.{AreParts, Inside, IsLoaded}
 use Rattle.device_core.specs.Holds.{held_less}
 use Rattle.device_core.specs.declared.loads.Load.{Load}
-use Rattle.device_core.specs.Notes.{IsNoted, note}
+use Rattle.device_core.specs.Notes.{HasNoted, note}
 use Rattle.object_steps.proofs.Rested.{ends_told}
 use Rattle.seq_model.specs.Told.{end_of_object, gone, status_at}
 use Rattle.seq_model.specs.declared.calls.Entry.TheVariants.{Closed}
@@ -58,7 +58,7 @@ end_flight-requires c =
     let kept = c.in-Some.ensures.cargo.0 in
     let rising = subst (λ (f : Future). Rising (map (λ g. g.ticket) f.flights)) c.frames.ensures.value c.are_kept.ensures.rising in
     let over : IsOver old.flights left e cargo = one_seen c.args.after old.flights c.next_ended.new.self.future e cargo c.frames.ensures.books c.in-Some.ensures.seen kept in
-    record { own = own_frame old e cargo left c.self.invariant rising over kept; }
+    record { own = own_frame old e cargo left c.self.invariant rising over kept }
 
 pub unhold_all-requires : goal.unhold_all-requires
 unhold_all-requires c =
@@ -153,7 +153,7 @@ returns-clause-noted c =
     let follow = follows old e cargo left c.self.invariant rising over kept c.unhold_all.new.store moves in
     let told = ends_told old.history (note e.left e.ticket) c.unhold_all.new.store follow c.bury.new.objects.state c.bury.ensures.state (no_close e.left e.ticket) in
     subst
-    (λ (before : Inside). IsNoted before (record { objects = c.bury.new.objects; flights = c.bury.new.flights; worlds = c.bury.new.worlds; history = c.push_reserved.new.self.items; room = vec_capacity c.push_reserved.new.self; builds = c.self.inside.builds }) c.bury.new.grave e.ticket)
+    (λ (before : Inside). HasNoted before (record { objects = c.bury.new.objects; flights = c.bury.new.flights; worlds = c.bury.new.worlds; history = c.push_reserved.new.self.items; room = vec_capacity c.push_reserved.new.self; builds = c.self.inside.builds }) c.bury.new.grave e.ticket)
     c.self.view_is
     (record {
       stopped = e.left;
