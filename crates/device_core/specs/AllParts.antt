@@ -42,7 +42,8 @@ shown_by w = record { primitives = w.primitives; lights = w.lights }
 -- reached, once; and its scene is that of the render, within the limits of pictures
 pub record IsLoaded (history : History) (c : Cargo Load) : Type 0 where
   pub early : c.ticket ≤ length history
-  pub reach : (h : ℕ) → times h c.kept.reach.items ≡ (if is_reached_by (after history).reached c.ticket h then 1 else 0)
+  pub reach : (h : ℕ) → times h c.kept.reach.items
+      ≡ (if is_reached_by (after history).reached c.ticket h then 1 else 0)
   pub scene : scene_of_load c.kept ≡ scene_at history c.ticket
   pub within : IsSceneWithin (scene_of_load c.kept)
 

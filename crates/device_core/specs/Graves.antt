@@ -14,7 +14,8 @@ IsEmpty g = (g.dead.list ≡ []) × (g.handles.items ≡ [])
 
 -- there is room for all of these objects
 abbrev pub HasRoomFor : List (ℕ × Object) → Grave → Type 0
-HasRoomFor objects g = (length (ended objects) ≤ g.dead.room) × (length objects ≤ vec_capacity g.handles)
+HasRoomFor objects g =
+    (length (ended objects) ≤ g.dead.room) × (length objects ≤ vec_capacity g.handles)
 
 -- the frames that are in flight or done, without the pictures of some that died
 abbrev pub without_pictures : Future → List ℕ → Future

@@ -11,7 +11,13 @@ ghost use Rattle.object_store.specs.Gathers.{IsLeft, buried};
 ghost use Rattle.seq_model.specs.Histories.{History};
 ghost use Rattle.seq_model.specs.Soundness.{IsRanked};
 ghost use Rattle.seq_model.specs.Told.{end_of_object, gone};
-ghost use Rattle.device_core.specs.Graves.{HasRoomFor, IsEmpty, all_but_those, unless_dead, without_pictures};
+ghost use Rattle.device_core.specs.Graves.{
+  HasRoomFor,
+  IsEmpty,
+  all_but_those,
+  unless_dead,
+  without_pictures,
+};
 
 use crate::graves::Grave;
 use dev_types::Handle;
@@ -33,11 +39,15 @@ pub(crate) fn bury<T, P: Drop>(
     ensures state { objects.new.state ≡ buried objects.old }
     ensures left { IsLeft objects.old objects.new }
     ensures dead { grave.new.dead.list ≡ ended (gone objects.old.state objects.new.state) }
-    ensures notices { filter_map notice_of grave.new.dead.list ≡ filter_map end_of_object (gone objects.old.state objects.new.state) }
+    ensures notices { filter_map notice_of grave.new.dead.list
+        ≡ filter_map end_of_object (gone objects.old.state objects.new.state) }
     ensures handles { grave.new.handles.items ≡ keys_of (gone objects.old.state objects.new.state) }
-    ensures same_room { (grave.new.dead.room ≡ grave.old.dead.room) × (vec_capacity grave.new.handles ≡ vec_capacity grave.old.handles) }
-    ensures flights { flights.new ≡ with_future flights.old (without_pictures flights.old.future grave.new.handles.items) }
-    ensures forgotten { (w : ℕ) → kept_at worlds.new w ≡ unless_dead grave.new.handles.items w (kept_at worlds.old w) }
+    ensures same_room { (grave.new.dead.room ≡ grave.old.dead.room)
+        × (vec_capacity grave.new.handles ≡ vec_capacity grave.old.handles) }
+    ensures flights { flights.new ≡ with_future flights.old
+        (without_pictures flights.old.future grave.new.handles.items) }
+    ensures forgotten { (w : ℕ)
+        → kept_at worlds.new w ≡ unless_dead grave.new.handles.items w (kept_at worlds.old w) }
     ensures known { (history : History) (there : ℕ → Bool)
         → AreKept there history (reach_at worlds.old)
         → AreKept (all_but_those grave.new.handles.items there) history (reach_at worlds.new) }
@@ -49,7 +59,8 @@ pub(crate) fn bury<T, P: Drop>(
 
 /// Drops the pictures of the frames among the dead.
 pub(crate) fn forget_pictures<T>(flights: &mut FlightBooks<T>, dead: &[Handle])
-    ensures { flights.new ≡ with_future flights.old (without_pictures flights.old.future dead.now) }
+    ensures { flights.new
+        ≡ with_future flights.old (without_pictures flights.old.future dead.now) }
 {
     for h in dead {
         flights.forget(*h);

@@ -25,7 +25,9 @@ fn is_in_flight(store: &Store, frame: Handle, ticket: u64) -> bool
 /// else.
 fn show_end(store: &mut Store, frame: Handle, ticket: u64, shows: Shows)
     requires own { IsOwn store.old.state ticket frame }
-    ensures { store.new ≡ record store.old { state = end_flights ticket (phase_of shows) store.old.state } }
+    ensures { store.new ≡ record store.old {
+      state = end_flights ticket (phase_of shows) store.old.state;
+    } }
 {
     store.counts_its_objects();
     if is_in_flight(store, frame, ticket) {
@@ -37,7 +39,9 @@ fn show_end(store: &mut Store, frame: Handle, ticket: u64, shows: Shows)
 /// shows its picture.
 pub(crate) fn end_flight(store: &mut Store, frame: Handle, ended: &Ended)
     requires own { IsOwn store.old.state ended.now.ticket frame }
-    ensures { (place : ℕ) → store.new ≡ record store.old { state = change place (note_of_end ended.now) store.old.state } }
+    ensures { (place : ℕ) → store.new ≡ record store.old {
+      state = change place (note_of_end ended.now) store.old.state;
+    } }
 {
     if ended.left {
         show_end(store, frame, ended.ticket, Shows::Nothing);

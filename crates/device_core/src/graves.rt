@@ -33,7 +33,8 @@ impl Grave {
         ensures dead { self.new.dead.list ≡ self.old.dead.list }
         ensures handles { self.new.handles.items ≡ self.old.handles.items }
         ensures room { OnOk result (length self.old.dead.list + more ≤ self.new.dead.room) }
-        ensures places { OnOk result (length self.old.handles.items + more ≤ vec_capacity self.new.handles) }
+        ensures places { OnOk result (length self.old.handles.items + more
+            ≤ vec_capacity self.new.handles) }
     {
         self.dead.reserve(more)?;
         self.handles.reserve(more)?;

@@ -22,7 +22,8 @@ impl Parts {
         requires room { HasRoomFor self.old.objects.state.objects grave.old }
         requires place { length self.old.history < self.old.room }
         ensures home { AreHome self.new.flights.future }
-        ensures noted { MatchOption result (self.new ≡ record self.old { flights = self.new.flights }) (HasNoted self.old self.new grave.new) }
+        ensures noted { MatchOption result (self.new ≡ record self.old { flights = self.new.flights })
+            (HasNoted self.old self.new grave.new) }
         ensures nothing_died { MatchOption result (grave.new ≡ grave.old) (λ _. Unit {0}) }
     {
         self.flights.frames().are_kept();

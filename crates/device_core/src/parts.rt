@@ -27,9 +27,23 @@ impl Model for Parts {
 
     ghost Value = { Insides };
 
-    ghost view = { λ p. record { objects = p.objects; flights = p.flights; worlds = p.worlds; history = p.journal.items; room = vec_capacity p.journal; builds = p.builds } };
+    ghost view = { λ p. record {
+      objects = p.objects;
+      flights = p.flights;
+      worlds = p.worlds;
+      history = p.journal.items;
+      room = vec_capacity p.journal;
+      builds = p.builds;
+    } };
 
-    ghost invariant = { λ p. AreParts (record { objects = p.objects; flights = p.flights; worlds = p.worlds; history = p.journal.items; room = vec_capacity p.journal; builds = p.builds }) };
+    ghost invariant = { λ p. AreParts (record {
+      objects = p.objects;
+      flights = p.flights;
+      worlds = p.worlds;
+      history = p.journal.items;
+      room = vec_capacity p.journal;
+      builds = p.builds;
+    }) };
 }
 
 impl Parts {
