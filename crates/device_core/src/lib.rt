@@ -4,12 +4,10 @@
 
 mod burials;
 mod ends;
-mod graves;
 mod holds;
 mod loads;
 mod notes;
 mod parts;
 
-pub use graves::Grave;
 pub use loads::Load;
 pub use parts::Parts;

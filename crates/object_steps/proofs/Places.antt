@@ -13,16 +13,17 @@ use Rattle.dev_types.specs.declared.values.Value.TheVariants as value
 use Rattle.kind_tables.specs.Kinds.{kind_of}
 use Rattle.kind_tables.specs.SceneObjects.{with_value, without_value}
 use Rattle.kind_tables.specs.declared.kinds.Kind.{Kind}
-use Rattle.object_store.specs.Ends.{Ends}
+use Rattle.object_store.specs.Ends.{Ends, ended, ended_of}
 use Rattle.object_store.specs.Gathers.{IsLeft}
 use Rattle.object_store.specs.Kept.{Stored}
 use Rattle.object_store.specs.Parts.{at}
 use Rattle.object_store.proofs.DeadSteps.{has_key}
 use Rattle.past_laws.specs.Suits.{taken_array}
+use Rattle.seq_model.proofs.Came.{stop_objects}
 use Rattle.seq_model.specs.Life.{has}
 use Rattle.seq_model.specs.Refusals.{is_parameter_out}
-use Rattle.seq_model.specs.State.{Object, ParameterLoan, State, changed_at, object_at, parameter_loan, with_object}
-use Rattle.seq_model.specs.Steps.{change_array, commit, effect, end_parameter_loan, fresh, fresh_array, holding, lend_parameter, lent, set_staged, take_in, unmap_parameter}
+use Rattle.seq_model.specs.State.{Empty, Object, ParameterLoan, State, changed_at, object_at, parameter_loan, with_object}
+use Rattle.seq_model.specs.Steps.{change_array, commit, discard, effect, end_parameter_loan, fresh, fresh_array, holding, lend_parameter, lent, set_phase, set_staged, take_in, unmap_parameter}
 use Rattle.seq_model.specs.Told.{gone}
 use Rattle.seq_model.specs.declared.calls.Call.{Call}
 use Rattle.seq_model.specs.declared.calls.Call.TheVariants.{NewObject, NewArray, Retain, Release, SetParameter, UnsetParameter, UnsetAll, Commit, MapArray, UnmapArray, MapParameterArray, UnmapParameterArray, RenderFrame, DiscardFrame, MapFrame, UnmapFrame}
@@ -128,17 +129,40 @@ pub places_after : (place : ℕ) (call : Call) (r : Reply) (s : Stored) (dead : 
     HasPlaces (carried place call r s) dead (count + one_if (is_birth call r)) places
 places_after place call r s dead count places can has = record {
   number = omega (arith, effect_length place call r s can, has.number);
-  none = has.none;
   ends = omega (arith, room_used place call r s can, has.ends);
   handles = omega (arith, room_used place call r s can, has.handles);
 }
 
--- and so after a burial
-pub places_left : (old now : Stored) (before after : Ends) (count places more : ℕ) → IsLeft old now → HasPlaces old before count places → after.list ≡ [] → after.room ≡ before.room → more ≡ places →
-    (departed : ℕ) → departed ≡ length (keys_of (gone old.state now.state)) → HasPlaces now after (count - departed) more
-places_left old now before after count places more left has none room same departed number = record {
-  number = omega (arith, left_and_gone old now left, has.number, number);
-  none = none;
-  ends = omega (arith, left_and_gone old now left, has.number, number, has.ends, room, ap one_if left.ready);
-  handles = omega (arith, left_and_gone old now left, has.number, number, has.handles, same, ap one_if left.ready);
+-- and so after a change of one object
+pub places_changed : (h : ℕ) (f : Object → Object) (s : Stored) (dead : Ends) (count places : ℕ) → HasPlaces s dead count places →
+    HasPlaces (record s { state = changed_at h f s.state }) dead count places
+places_changed h f s dead count places has = record {
+  number = changed_length h f s.state ∙ has.number;
+  ends = has.ends;
+  handles = has.handles;
 }
+
+discarded_length : (h : ℕ) (s : State) → length (discard h s).objects ≡ length s.objects
+unfolding discard
+discarded_length h s = ap (λ (es : List (ℕ × Object)). length es) (stop_objects (option_map_or (λ o. o.phase) (object_at s h) Empty) (changed_at h (set_phase Empty) s)) ∙ changed_length h (set_phase Empty) s
+
+-- and so after a discard, with other room for what was stopped
+pub places_discarded : (h room : ℕ) (s : Stored) (dead : Ends) (count places : ℕ) → HasPlaces s dead count places →
+    HasPlaces (record s { state = discard h s.state; places = room }) dead count places
+places_discarded h room s dead count places has = record {
+  number = discarded_length h s.state ∙ has.number;
+  ends = has.ends;
+  handles = has.handles;
+}
+
+-- and so after a burial
+pub places_left : (old now : Stored) (before after : Ends) (count places more : ℕ) → IsLeft old now → HasPlaces old before count places →
+    after.list ≡ ended (gone old.state now.state) → after.room ≡ before.room → more ≡ places →
+    (departed : ℕ) → departed ≡ length (keys_of (gone old.state now.state)) → HasPlaces now after (count - departed) more
+places_left old now before after count places more left has dead room same departed number =
+    let keys : length (keys_of (gone old.state now.state)) ≡ length (gone old.state now.state) = length-map (gone old.state now.state) (λ (e : ℕ × Object). e.0) in
+    record {
+      number = omega (arith, left_and_gone old now left, has.number, number);
+      ends = omega (arith, left_and_gone old now left, has.number, number, has.ends, room, ap one_if left.ready, ap length dead, keys, most_collected ended_of (gone old.state now.state));
+      handles = omega (arith, left_and_gone old now left, has.number, number, has.handles, same, ap one_if left.ready);
+    }

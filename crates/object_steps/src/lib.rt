@@ -10,6 +10,7 @@ pub mod array_loans;
 pub mod at_rest;
 pub mod carry_laws;
 pub mod changes;
+mod frames;
 pub mod lent_params;
 pub mod objects;
 

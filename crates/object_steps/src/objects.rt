@@ -4,6 +4,7 @@ ghost use Rattle.std.specs.BTreeMap.{is_at};
 ghost use Rattle.std.specs.List.{filter_map};
 ghost use Rattle.std.specs.Map.{keys_of, set_value};
 ghost use Rattle.std.specs.Ordering.{nat_cmp};
+ghost use Rattle.object_store.specs.Ends.{ended, notice_of};
 ghost use Rattle.object_store.specs.Gathers.{IsLeft, buried};
 ghost use Rattle.object_store.specs.Kept.{number_at};
 ghost use Rattle.seq_model.specs.Soundness.{IsRanked};
@@ -24,12 +25,13 @@ use std::marker::Model;
 /// The objects of a device, with room for the ends of all of them, so that dying takes no memory.
 #[derive(Drop)]
 pub struct ObjectStore {
-    store: Store,
+    pub(crate) store: Store,
     // How many objects there are.
-    count: usize,
-    dead: Dead,
-    // The handles of those that died with the last burial.
-    departed: Vec<Handle>,
+    pub(crate) count: usize,
+    // The arrays that died with the last burial, of whose end nothing was told yet.
+    pub(crate) dead: Dead,
+    // The handles of all that died with the last burial.
+    pub(crate) departed: Vec<Handle>,
 }
 
 impl Model for ObjectStore {
@@ -38,7 +40,11 @@ impl Model for ObjectStore {
 
     ghost Value = { Objects };
 
-    ghost view = { λ o. record { stored = o.store; departed = o.departed.items } };
+    ghost view = { λ o. record {
+      stored = o.store;
+      departed = o.departed.items;
+      dead = o.dead.list;
+    } };
 
     ghost invariant = { λ o. HasPlaces o.store o.dead o.count (vec_capacity o.departed) };
 }
@@ -49,6 +55,7 @@ impl ObjectStore {
         ensures state { result.stored.state ≡ empty }
         ensures public { result.stored.public ≡ [] }
         ensures holds { result.stored.holds ≡ [] }
+        ensures dead { result.dead ≡ [] }
     {
         ObjectStore {
             store: Store::new(alloc),
@@ -122,30 +129,62 @@ impl ObjectStore {
         Ok(out)
     }
 
+    /// Takes away all objects that do not live. The arrays among them are dead, by rising handle, and
+    /// of their ends nothing is told yet. This takes no memory.
+    pub fn gather(&mut self)
+        requires ranked { IsRanked self.old.stored.state.objects }
+        requires none { self.old.dead ≡ [] }
+        ensures state { self.new.stored.state ≡ buried self.old.stored }
+        ensures left { IsLeft self.old.stored self.new.stored }
+        ensures departed { self.new.departed ≡ keys_of (gone self.old.stored.state
+            self.new.stored.state) }
+        ensures dead { self.new.dead ≡ ended (gone self.old.stored.state self.new.stored.state) }
+        ensures notices { filter_map notice_of self.new.dead ≡ filter_map end_of_object (gone
+            self.old.stored.state self.new.stored.state) }
+    {
+        self.departed.clear();
+        self.store.gather(&mut self.dead, &mut self.departed);
+        self.count -= self.departed.len();
+    }
+
+    /// Tells the client of the ends of the arrays that are dead. This takes no memory.
+    pub fn tell<C: Client>(&mut self, client: &mut C)
+        requires { length (filter_map notice_of self.old.dead) ≤ C.spare client.old }
+        ensures none { self.new ≡ record self.old { dead = [] } }
+        ensures told { C.notices client.new ≡ C.notices client.old ++ filter_map notice_of
+            self.old.dead }
+        ensures room { C.spare client.old ≤ C.spare client.new + length (filter_map notice_of
+            self.old.dead) }
+    {
+        self.dead.tell(client);
+    }
+
     /// Takes away all objects that do not live, and tells the client of their ends by rising handle.
     /// This takes no memory.
     pub fn bury<C: Client>(&mut self, client: &mut C)
         requires ranked { IsRanked self.old.stored.state.objects }
+        requires none { self.old.dead ≡ [] }
         requires spare { length (filter_map end_of_object self.old.stored.state.objects) ≤ C.spare
             client.old }
         ensures state { self.new.stored.state ≡ buried self.old.stored }
         ensures left { IsLeft self.old.stored self.new.stored }
         ensures departed { self.new.departed ≡ keys_of (gone self.old.stored.state
             self.new.stored.state) }
+        ensures dead { self.new.dead ≡ [] }
         ensures told { C.notices client.new ≡ C.notices client.old ++ filter_map end_of_object
             (gone self.old.stored.state self.new.stored.state) }
         ensures room { C.spare client.old ≤ C.spare client.new + length (filter_map end_of_object
             (gone self.old.stored.state self.new.stored.state)) }
     {
-        self.departed.clear();
-        self.store.gather(&mut self.dead, &mut self.departed);
-        self.dead.tell(client);
-        self.count -= self.departed.len();
+        self.gather();
+        self.tell(client);
     }
 
     /// All objects end, and the client is told of their ends by rising handle. This takes no memory.
     pub fn close<C: Client>(self, client: &mut C)
-        requires { length (filter_map end_of_object self.stored.state.objects) ≤ C.spare client.old }
+        requires none { self.dead ≡ [] }
+        requires spare { length (filter_map end_of_object self.stored.state.objects) ≤ C.spare
+            client.old }
         ensures told { C.notices client.new ≡ C.notices client.old ++ filter_map end_of_object
             self.stored.state.objects }
         ensures room { C.spare client.old ≤ C.spare client.new + length (filter_map end_of_object

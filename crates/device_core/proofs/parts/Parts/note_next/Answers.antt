@@ -16,7 +16,7 @@ use Rattle.device_laws.specs.Flown.{Flown, runs_of}
 use Rattle.device_core.specs.AllParts.{AreParts, Inside, IsLoaded}
 use Rattle.device_core.specs.Holds.{held_less}
 use Rattle.device_core.specs.declared.loads.Load.{Load}
-use Rattle.device_core.specs.Notes.{HasNoted, note}
+use Rattle.device_core.specs.Notes.{HasNoted, HasNotedNothing, note}
 use Rattle.object_steps.proofs.Rested.{ends_told}
 use Rattle.seq_model.specs.Told.{end_of_object, gone, status_at}
 use Rattle.seq_model.specs.declared.calls.Entry.TheVariants.{Closed}
@@ -153,11 +153,22 @@ returns-clause-noted c =
     let follow = follows old e cargo left c.self.invariant rising over kept c.unhold_all.new.store moves in
     let told = ends_told old.history (note e.left e.ticket) c.unhold_all.new.store follow c.bury.new.objects.state c.bury.ensures.state (no_close e.left e.ticket) in
     subst
-    (λ (before : Inside). HasNoted before (record { objects = c.bury.new.objects; flights = c.bury.new.flights; worlds = c.bury.new.worlds; history = c.push_reserved.new.self.items; room = vec_capacity c.push_reserved.new.self; builds = c.self.inside.builds }) c.bury.new.grave e.ticket)
+    (λ (before : Inside). HasNoted c.args.after before (record { objects = c.bury.new.objects; flights = c.bury.new.flights; worlds = c.bury.new.worlds; history = c.push_reserved.new.self.items; room = vec_capacity c.push_reserved.new.self; builds = c.self.inside.builds }) c.bury.new.grave e.ticket)
     c.self.view_is
     (record {
-      stopped = e.left;
+      ended = e;
+      ticket = refl;
+      looked = c.next_ended.new.self.future;
+      seen = c.in-Some.ensures.seen;
+      left = ap (λ (b : Books Load). b.future) c.bury.ensures.flights;
       grown = c.push_reserved.ensures.items ∙ ap (λ n. old.history ++ n ∷ []) c.note_of.ensures;
       told = c.bury.ensures.notices ∙ sym (told ∙ ap (λ status. status ++ filter_map end_of_object (gone c.unhold_all.new.store.state c.bury.new.objects.state)) (no_status e.left e.ticket));
       room = c.push_reserved.ensures.capacity;
     })
+
+pub returns-in-None-clause-noted : goal.returns-in-None-clause-noted
+returns-in-None-clause-noted c =
+    subst
+    (λ (before : Inside). HasNotedNothing c.args.after before (record { objects = c.self.inside.objects; flights = c.next_ended.new.self; worlds = c.self.inside.worlds; history = c.self.inside.journal.items; room = vec_capacity c.self.inside.journal; builds = c.self.inside.builds }))
+    c.self.view_is
+    (record { seen = c.in-None.ensures.seen; rest = refl; })
