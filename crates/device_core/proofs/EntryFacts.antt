@@ -2,7 +2,7 @@
 use Rattle.std.proofs.Common.{◌≡◌, ◌∙◌, ◌⊎◌, inl, inr, ℕ, ◌+◌, ◌<◌, ◌≤◌, ◌&&◌, Bool, true, false, not, cond, List, [], ◌∷◌, ◌++◌, Option, Some, None, length, length-append, refl, sym, ap, subst, arith}
 use Rattle.std.specs.List.{AllByRecursion}
 use Rattle.std.specs.Map.{keys_of}
-use Rattle.std.specs.Option.{MatchOption, is_some, option_map}
+use Rattle.std.specs.Option.{MatchOption, is_some, option_map, unwrap_or}
 use Rattle.dev_types.specs.Counting.{times}
 use Rattle.flight_books.specs.Kept.{is_of, without}
 use Rattle.flight_books.specs.declared.kept.Cargo.{Cargo}
@@ -110,7 +110,7 @@ module _ (old new : Inside) (e : Entry) (moved : Stored) (mid : Worlds World) (p
       let here : has w (keys_of moved.state.objects) ≡ true =
       has_key w moved.state.objects ∙ ap (λ (s : State). is_some (object_at s w)) follows.state ∙ stays_there old.history e w going was in
       ap (λ ks. not (has w ks) && true) departed
-      ∙ left_of moved.state.objects new.objects.stored.state.objects w here is_left.kept
+      ∙ left_of moved.state.objects new.objects.stored.state.objects w here
       ∙ ap (λ (s : State). is_some (object_at s w)) rests_after.state
 
   -- a world that comes was never rendered

@@ -1,9 +1,10 @@
 -- Lemmas of this crate.
 pub mod EndFacts
+pub mod EntryFacts
 pub mod FollowFacts
 pub mod HoldFacts
 pub mod KeptFacts
 pub mod LookFacts
 pub mod NotedFacts
-pub mod RoomFacts
 pub mod SeenFacts
+pub mod TellFacts

@@ -1,7 +1,7 @@
 -- A flight that a look showed to be over, with what was kept with it, and the runs that are left.
-use Rattle.std.proofs.Common.{◌≡◌, ◌∙◌, ℕ, Bool, false, List, [], ◌∷◌, ◌++◌, Option, Some, None, refl, sym, ap, subst}
+use Rattle.std.proofs.Common.{◌≡◌, ◌∙◌, ℕ, Bool, false, List, [], ◌∷◌, ◌++◌, Option, Some, None, length, refl, sym, ap, subst}
 use Rattle.std.specs.Option.{IsSomeAnd}
-use Rattle.std.proofs.lemmas.List.{append_assoc, map-append}
+use Rattle.std.proofs.lemmas.List.{append_assoc, length-map, map-append}
 use Rattle.flight_books.specs.Kept.{AreBooks, Books, IsBooked, cargo_at}
 use Rattle.flight_books.specs.declared.kept.Cargo.{Cargo}
 use Rattle.flight_books.proofs.PairLaws.{ticket_booked}
@@ -73,3 +73,7 @@ one_seen {T} after old new e c books s is = by (flight_at old.future e.ticket) r
           frame = sym booked.frame;
           cargo = booked.ticket ∙ same ∙ sym over.3;
         }
+
+-- as many runs are as many flights
+pub seen_count : (old new : Future) → runs_of new.flights ≡ runs_of old.flights → length new.flights ≡ length old.flights
+seen_count old new same = sym (length-map new.flights run_of) ∙ ap length same ∙ length-map old.flights run_of

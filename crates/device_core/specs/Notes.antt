@@ -37,4 +37,6 @@ pub record HasNoted (last : ℕ) (old new : Inside) (t : ℕ) : Type 0 where
 -- all flights above a ticket were looked at, and none ended
 pub record HasNotedNothing (last : ℕ) (old new : Inside) : Type 0 where
   pub seen : AreSeen last old.flights.future new.flights.future None
-  pub rest : new ≡ record old { flights = record new.flights { cargo = old.flights.cargo; over = old.flights.over } }
+  pub cargo : new.flights.cargo ≡ old.flights.cargo
+  pub over : new.flights.over ≡ old.flights.over
+  pub rest : new ≡ record old { flights = new.flights }
