@@ -10,4 +10,5 @@ pub mod Places
 pub mod ReachLaws
 pub mod Reaches
 pub mod Rested
+pub mod Tellables
 pub mod Tickets

@@ -11,11 +11,11 @@ ghost use Rattle.seq_model.specs.Soundness.{IsRanked};
 ghost use Rattle.seq_model.specs.State.{empty, object_at};
 ghost use Rattle.seq_model.specs.Told.{end_of_object, gone};
 ghost use Rattle.object_steps.specs.Carrying.{CanCarry, GivesBack, carried, handed};
-ghost use Rattle.object_steps.specs.Objects.{is_birth};
+ghost use Rattle.object_steps.specs.Objects.{is_birth, one_if, takes_memory, tellable};
 
 use crate::array_loans::ArrayLoan;
 use crate::changes::carry_out;
-use dev_types::{Client, Handle, NoMemory};
+use dev_types::{Client, Handle, NoMemory, Origin};
 use object_store::dead::Dead;
 use object_store::store::Store;
 use seq_model::{Call, Reply};
@@ -28,6 +28,8 @@ pub struct ObjectStore {
     pub(crate) store: Store,
     // How many objects there are.
     pub(crate) count: usize,
+    // Of the ends of how many the client is to be told.
+    pub(crate) tellable: usize,
     // The arrays that died with the last burial, of whose end nothing was told yet.
     pub(crate) dead: Dead,
     // The handles of all that died with the last burial.
@@ -46,7 +48,7 @@ impl Model for ObjectStore {
       dead = o.dead.list;
     } };
 
-    ghost invariant = { λ o. HasPlaces o.store o.dead o.count (vec_capacity o.departed) };
+    ghost invariant = { λ o. HasPlaces o.store o.dead o.count o.tellable (vec_capacity o.departed) };
 }
 
 impl ObjectStore {
@@ -60,6 +62,7 @@ impl ObjectStore {
         ObjectStore {
             store: Store::new(alloc),
             count: 0,
+            tellable: 0,
             dead: Dead::new(alloc),
             departed: Vec::new(alloc),
         }
@@ -77,6 +80,14 @@ impl ObjectStore {
         ensures { result.now ≡ self.now.departed }
     {
         &self.departed
+    }
+
+    /// Of how many ends the client is to be told: how many arrays there are whose memory the
+    /// application gave.
+    pub fn tellable(&self) -> usize
+        ensures { result ≡ tellable self.now.stored.state }
+    {
+        self.tellable
     }
 
     /// Makes room for one more object, and for its end.
@@ -123,9 +134,8 @@ impl ObjectStore {
             Ok(out) => out,
             Err(refused) => return Err(refused),
         };
-        if is_birth(call, reply) {
-            self.count += 1;
-        }
+        self.count += one_if(is_birth(call, reply));
+        self.tellable += one_if(takes_memory(call, reply));
         Ok(out)
     }
 
@@ -145,6 +155,7 @@ impl ObjectStore {
         self.departed.clear();
         self.store.gather(&mut self.dead, &mut self.departed);
         self.count -= self.departed.len();
+        self.tellable -= self.dead.notices();
     }
 
     /// Tells the client of the ends of the arrays that are dead. This takes no memory.
@@ -164,8 +175,7 @@ impl ObjectStore {
     pub fn bury<C: Client>(&mut self, client: &mut C)
         requires ranked { IsRanked self.old.stored.state.objects }
         requires none { self.old.dead ≡ [] }
-        requires spare { length (filter_map end_of_object self.old.stored.state.objects) ≤ C.spare
-            client.old }
+        requires spare { tellable self.old.stored.state ≤ C.spare client.old }
         ensures state { self.new.stored.state ≡ buried self.old.stored }
         ensures left { IsLeft self.old.stored self.new.stored }
         ensures departed { self.new.departed ≡ keys_of (gone self.old.stored.state
@@ -183,8 +193,7 @@ impl ObjectStore {
     /// All objects end, and the client is told of their ends by rising handle. This takes no memory.
     pub fn close<C: Client>(self, client: &mut C)
         requires none { self.dead ≡ [] }
-        requires spare { length (filter_map end_of_object self.stored.state.objects) ≤ C.spare
-            client.old }
+        requires spare { tellable self.stored.state ≤ C.spare client.old }
         ensures told { C.notices client.new ≡ C.notices client.old ++ filter_map end_of_object
             self.stored.state.objects }
         ensures room { C.spare client.old ≤ C.spare client.new + length (filter_map end_of_object
@@ -193,6 +202,7 @@ impl ObjectStore {
         let ObjectStore {
             store,
             count: _,
+            tellable: _,
             mut dead,
             departed: _,
         } = self;
@@ -237,6 +247,22 @@ fn is_birth(call: &Call, reply: &Reply) -> bool
             call,
             Call::NewObject { .. } | Call::NewArray { .. } | Call::UnmapParameterArray { .. }
         )
+}
+
+/// Whether a call makes, by its reply, an array of memory that the application gave.
+fn takes_memory(call: &Call, reply: &Reply) -> bool
+    ensures { result ≡ takes_memory call.now reply.now }
+{
+    match (call, reply) {
+        (Call::NewArray { origin, .. }, Reply::Made(_)) => !matches!(origin, Origin::Managed),
+        _ => false,
+    }
+}
+
+fn one_if(test: bool) -> usize
+    ensures { result ≡ one_if test }
+{
+    if test { 1 } else { 0 }
 }
 
 /// Makes room for so many handles, in all.

@@ -13,8 +13,8 @@ invariant_of-self c = by c.discard.result c.discard.ensures.ok c.discard.ensures
     old = c.self.inside.store
 
     by : {A B : Type 0} (r : Result A B) → OnOk r (c.discard.new.self ≡ record old { state = discard c.args.h old.state; places = c.discard.new.self.places }) → OnErr r (c.discard.new.self ≡ record old { places = c.discard.new.self.places })
-        → HasPlaces c.discard.new.self c.self.inside.dead c.self.inside.count (vec_capacity c.self.inside.departed)
-    by (Ok v) ok err = subst (λ s. HasPlaces s c.self.inside.dead c.self.inside.count (vec_capacity c.self.inside.departed)) (sym ok)
-        (places_discarded c.args.h c.discard.new.self.places old c.self.inside.dead c.self.inside.count (vec_capacity c.self.inside.departed) c.self.invariant)
-    by (Err e) ok err = subst (λ s. HasPlaces s c.self.inside.dead c.self.inside.count (vec_capacity c.self.inside.departed)) (sym err)
-        (record { number = c.self.invariant.number; ends = c.self.invariant.ends; handles = c.self.invariant.handles; })
+        → HasPlaces c.discard.new.self c.self.inside.dead c.self.inside.count c.self.inside.tellable (vec_capacity c.self.inside.departed)
+    by (Ok v) ok err = subst (λ s. HasPlaces s c.self.inside.dead c.self.inside.count c.self.inside.tellable (vec_capacity c.self.inside.departed)) (sym ok)
+        (places_discarded c.args.h c.discard.new.self.places old c.self.inside.dead c.self.inside.count c.self.inside.tellable (vec_capacity c.self.inside.departed) c.self.invariant)
+    by (Err e) ok err = subst (λ s. HasPlaces s c.self.inside.dead c.self.inside.count c.self.inside.tellable (vec_capacity c.self.inside.departed)) (sym err)
+        (record { number = c.self.invariant.number; tellable = c.self.invariant.tellable; ends = c.self.invariant.ends; handles = c.self.invariant.handles; })

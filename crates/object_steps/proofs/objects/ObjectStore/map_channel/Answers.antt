@@ -1,4 +1,4 @@
-use Rattle.std.proofs.Common.{◌≡◌, sym, subst}
+use Rattle.std.proofs.Common.{◌≡◌, refl, sym, subst}
 use Rattle.std.specs.Prelude.{vec_capacity, Result, Ok, Err, OnErr, OnOk}
 use Rattle.object_store.specs.Kept.{Stored}
 use Rattle.seq_model.specs.State.{changed_at}
@@ -14,7 +14,7 @@ invariant_of-self c = by c.map_channel.result c.map_channel.ensures.ok c.map_cha
     old = c.self.inside.store
 
     by : {A B : Type 0} (r : Result A B) → OnOk r (c.map_channel.new.self ≡ record old { state = changed_at c.args.h (map_channel c.args.channel c.args.number) old.state }) → OnErr r (c.map_channel.new.self ≡ old)
-        → HasPlaces c.map_channel.new.self c.self.inside.dead c.self.inside.count (vec_capacity c.self.inside.departed)
-    by (Ok v) ok err = subst (λ s. HasPlaces s c.self.inside.dead c.self.inside.count (vec_capacity c.self.inside.departed)) (sym ok)
-        (places_changed c.args.h (map_channel c.args.channel c.args.number) old c.self.inside.dead c.self.inside.count (vec_capacity c.self.inside.departed) c.self.invariant)
-    by (Err e) ok err = subst (λ s. HasPlaces s c.self.inside.dead c.self.inside.count (vec_capacity c.self.inside.departed)) (sym err) c.self.invariant
+        → HasPlaces c.map_channel.new.self c.self.inside.dead c.self.inside.count c.self.inside.tellable (vec_capacity c.self.inside.departed)
+    by (Ok v) ok err = subst (λ s. HasPlaces s c.self.inside.dead c.self.inside.count c.self.inside.tellable (vec_capacity c.self.inside.departed)) (sym ok)
+        (places_changed c.args.h (map_channel c.args.channel c.args.number) old c.self.inside.dead c.self.inside.count c.self.inside.tellable (vec_capacity c.self.inside.departed) (λ o. refl) c.self.invariant)
+    by (Err e) ok err = subst (λ s. HasPlaces s c.self.inside.dead c.self.inside.count c.self.inside.tellable (vec_capacity c.self.inside.departed)) (sym err) c.self.invariant
