@@ -7,4 +7,5 @@ pub mod KeptFacts
 pub mod LookFacts
 pub mod NotedFacts
 pub mod SeenFacts
+pub mod SweepFacts
 pub mod TellFacts

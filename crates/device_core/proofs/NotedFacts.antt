@@ -44,16 +44,17 @@ use Rattle.device_core.proofs.FollowFacts.{noted_follows, once, was_held}
 use Rattle.device_core.specs.Ends.{IsOwn}
 use Rattle.device_laws.proofs.FlownFacts.{middle, own_flight}
 use Rattle.device_laws.specs.Showings.{is_flight, nothing_shown, showing_at, showing_of}
-use Rattle.device_core.specs.Deaths.{all_but_those, tellable, unless_dead, untold}
+use Rattle.device_core.specs.Deaths.{all_but_those, unless_dead, untold}
 use Rattle.device_core.specs.Holds.{held_less, with_holds}
 use Rattle.kept_worlds.specs.KeptMaps.{Kept, kept_at, reach_at, shown_at}
 use Rattle.kept_worlds.specs.LastKept.{AreKept, AreShown, is_there}
 use Rattle.object_steps.proofs.Rested.{ends_told}
-use Rattle.object_steps.specs.Objects.{Objects, with_state}
+use Rattle.object_steps.specs.Objects.{Objects, tellable, with_state}
 use Rattle.seq_model.specs.Told.{end_of_object, gone, status_at, told_by}
 use Rattle.device_core.proofs.LookFacts.{IsWithout}
 use Rattle.device_core.proofs.SeenFacts.{IsOver, one_seen}
-use Rattle.device_core.proofs.TellFacts.{fewer_told, noted_tellable}
+use Rattle.device_core.proofs.TellFacts.{noted_tellable}
+use Rattle.object_steps.proofs.Tellables.{fewer_told}
 
 none_above : (t : ℕ) (ts : List ℕ) → AllByRecursion (λ u. t < u) ts → has t ts ≡ false
 none_above t [] all = refl
@@ -201,9 +202,9 @@ module _ (old new : Inside) (e : Ended) (c : Cargo Load) (left : List Flying) (x
 
   -- with those that are left there are no more to be told than before
   pub noted_fewer : filter_map notice_of new.objects.dead ≡ filter_map end_of_object (gone (moved old e c left x).stored.state new.objects.stored.state)
-      → tellable new.objects + untold new.objects ≤ tellable old.objects
+      → tellable new.objects.stored.state + untold new.objects ≡ tellable old.objects.stored.state
   noted_fewer notices =
       let parts = fewer_told (moved old e c left x).stored new.objects.stored is_left in
       let dead = ap length notices in
-      let same_ = ap length (noted_tellable (next_place (after old.history)) e.left e.ticket old.objects.stored.state) in
+      let same_ = noted_tellable (next_place (after old.history)) e.left e.ticket old.objects.stored.state in
       omega (arith, parts, dead, same_)

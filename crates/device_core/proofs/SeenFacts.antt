@@ -6,10 +6,11 @@ use Rattle.flight_books.specs.Kept.{AreBooks, Books, IsBooked, cargo_at}
 use Rattle.flight_books.specs.declared.kept.Cargo.{Cargo}
 use Rattle.flight_books.proofs.PairLaws.{ticket_booked}
 use Rattle.frame_future.specs.Flights.{Flying, awaited, is_stopped, looked_at}
-use Rattle.frame_future.specs.Future.{Future, flight_at}
+use Rattle.frame_future.specs.Future.{Future, flight_at, without_picture}
 use Rattle.frame_future.specs.Reads.{AreSeen, ended_by, left_by}
 use Rattle.frame_future.specs.declared.phase.Ended.{Ended}
 use Rattle.device_laws.specs.Flown.{Run, run_of, runs_of}
+use Rattle.device_core.specs.Deaths.{without_pictures}
 use Rattle.device_core.proofs.LookFacts.{IsWithout, none_ended, one_ended}
 
 -- more runs before and behind
@@ -77,3 +78,8 @@ one_seen {T} after old new e c books s is = by (flight_at old.future e.ticket) r
 -- as many runs are as many flights
 pub seen_count : (old new : Future) → runs_of new.flights ≡ runs_of old.flights → length new.flights ≡ length old.flights
 seen_count old new same = sym (length-map new.flights run_of) ∙ ap length same ∙ length-map old.flights run_of
+
+-- dropping pictures leaves the flights
+pub pictures_only : (s : Future) (dead : List ℕ) → (without_pictures s dead).flights ≡ s.flights
+pictures_only s [] = refl
+pictures_only s (h ∷ dead) = pictures_only (without_picture s h) dead

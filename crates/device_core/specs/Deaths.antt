@@ -1,13 +1,13 @@
 -- Objects that died with one entry, and what is forgotten of them.
-use Rattle.std.specs.Prelude.{ℕ, Bool, List, Option, None, fold, length, if◌then◌else◌}
+use Rattle.std.specs.Prelude.{ℕ, Bool, List, [], Option, None, fold, length, if◌then◌else◌}
 use Rattle.std.specs.List.{filter_map}
 use Rattle.seq_model.specs.Life.{has}
-use Rattle.seq_model.specs.Told.{end_of_object}
 use Rattle.frame_future.specs.Future.{Future, without_picture}
 use Rattle.kept_worlds.specs.KeptMaps.{Kept}
 use Rattle.kept_worlds.specs.LastKept.{all_but}
 use Rattle.object_store.specs.Ends.{notice_of}
 use Rattle.object_steps.specs.Objects.{Objects}
+use Rattle.device_core.specs.AllParts.{Inside}
 
 -- the frames that are in flight or done, without the pictures of some that died
 abbrev pub without_pictures : Future → List ℕ → Future
@@ -21,9 +21,10 @@ unless_dead dead w kept = if has w dead then None else kept
 abbrev pub all_but_those : List ℕ → (ℕ → Bool) → ℕ → Bool
 all_but_those dead there = fold (λ left w. all_but w left) there dead
 
--- of how many ends the client is still to be told: of those that died, and of those that are there
+-- of how many ends of those that died the client is still to be told
 abbrev pub untold : Objects → ℕ
 untold o = length (filter_map notice_of o.dead)
 
-abbrev pub tellable : Objects → ℕ
-tellable o = length (filter_map end_of_object o.stored.state.objects)
+-- the parts once the client was told of all ends
+abbrev pub all_told : Inside → Inside
+all_told i = record i { objects = record i.objects { dead = [] } }

@@ -8,6 +8,7 @@ mod holds;
 mod loads;
 mod notes;
 mod parts;
+mod sweeps;
 
 pub use loads::Load;
 pub use parts::Parts;

@@ -1,4 +1,4 @@
-use Rattle.std.proofs.Common.{◌≡◌, [], refl, sym, subst}
+use Rattle.std.proofs.Common.{◌≡◌, ◌∙◌, [], refl, sym, subst}
 use Rattle.std.specs.List.{AllByRecursion}
 use Rattle.frame_future.specs.Future.{Future}
 use Rattle.kept_worlds.specs.KeptMaps.{Worlds, shown_at}
@@ -24,9 +24,9 @@ built_first = refl
 
 pub invariant_of-result : goal.invariant_of-result
 invariant_of-result c =
-    let rest : IsAtRest c.new.result [] = rests_first c.new.result c.new.ensures.state c.new.ensures.public c.new.ensures.holds in
-    let history = sym c.new-4.ensures.items in
-    subst (λ h. AreParts (record { objects = c.new.result; flights = c.new-2.result; worlds = c.new-3.result; history = h; room = vec_capacity c.new-4.result; builds = 0 })) history
+    let rest : IsAtRest c.new.result.stored [] = rests_first c.new.result.stored c.new.ensures.state c.new.ensures.public c.new.ensures.holds in
+    let history : [] ≡ c.reserve.new.self.items = sym (c.reserve.ensures.items ∙ c.new-journal.ensures.items) in
+    subst (λ h. AreParts (record { objects = c.new.result; flights = c.new-2.result; worlds = c.new-3.result; history = h; room = vec_capacity c.reserve.new.self; builds = 0 })) history
     (record {
       rest = rest;
       flown = subst (λ (s : Future). Flown [] (runs_of s.flights)) (sym c.new-2.ensures.future) first_flown;
@@ -35,4 +35,5 @@ invariant_of-result c =
       kept = c.new-3.ensures.known (is_there []);
       shown = subst (λ (w : Worlds World). AreShown [] (shown_at shown_by w)) (sym c.new-3.ensures.empty) (λ _. tt);
       built = built_first;
+      places = ?;
     })

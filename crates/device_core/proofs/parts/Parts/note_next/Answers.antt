@@ -1,4 +1,4 @@
-use Rattle.std.proofs.Common.{◌≡◌, ◌∙◌, ℕ, ◌<◌, ◌≤◌, true, List, [], ◌∷◌, ◌++◌, length, refl, sym, ap, subst}
+use Rattle.std.proofs.Common.{◌≡◌, ◌∙◌, ℕ, ◌+◌, ◌<◌, ◌≤◌, true, List, [], ◌∷◌, ◌++◌, length, refl, sym, ap, subst}
 use Rattle.std.specs.Prelude.{slice_index_or, vec_capacity}
 use Rattle.std.specs.List.{AllByRecursion, filter_map}
 use Rattle.std.specs.Map.{keys_of}
@@ -6,7 +6,7 @@ use Rattle.std.proofs.lemmas.List.{append-nil}
 use Rattle.dev_types.specs.Counting.{times}
 use Rattle.flight_books.specs.Kept.{Books}
 use Rattle.frame_future.specs.Flights.{Flying}
-use Rattle.frame_future.specs.Future.{Future, without_picture}
+use Rattle.frame_future.specs.Future.{Future}
 use Rattle.object_store.specs.Gathers.{IsLeft, buried}
 use Rattle.object_store.specs.Kept.{CountsItsObjects, number_at}
 use Rattle.object_steps.specs.Objects.{Objects}
@@ -16,19 +16,13 @@ use Rattle.seq_model.specs.Steps.{after, next_place}
 use Rattle.seq_model.specs.Told.{end_of_object, gone}
 use Rattle.device_laws.specs.Flown.{Flown, runs_of}
 use Rattle.device_core.specs.AllParts.{AreParts, Inside, IsLoaded}
-use Rattle.device_core.specs.Deaths.{without_pictures}
 use Rattle.device_core.specs.Ends.{IsOwn}
 use Rattle.device_core.specs.Holds.{held_less, with_holds}
 use Rattle.device_core.specs.Notes.{HasNoted, HasNotedNothing, note}
 use Rattle.device_core.specs.declared.loads.Load.{Load}
 use Rattle.device_core.proofs.NotedFacts.{IsEnding, ending, follows, holds_it, moved, noted_fewer, noted_parts, noted_told, own_frame}
-use Rattle.device_core.proofs.SeenFacts.{none_seen, seen_count}
+use Rattle.device_core.proofs.SeenFacts.{none_seen, pictures_only, seen_count}
 use Rattle.device_core.proofs.parts.Parts.note_next.Goals as goal
-
--- dropping pictures leaves the flights
-pictures_only : (s : Future) (dead : List ℕ) → (without_pictures s dead).flights ≡ s.flights
-pictures_only s [] = refl
-pictures_only s (h ∷ dead) = pictures_only (without_picture s h) dead
 
 -- where no flight ended, all holds as before
 unended : (old : Inside) (flights : Books Load) → AreParts old → runs_of flights.future.flights ≡ runs_of old.flights.future.flights → length flights.future.flights ≡ length old.flights.future.flights
@@ -56,8 +50,8 @@ end_flight-requires c =
     let e = c.in-Some.over.ended in
     let cargo = c.in-Some.over.cargo in
     let left = c.next_ended.new.self.future.flights in
-    let x : IsEnding old e cargo left = ending old c.args.after c.frames.result c.next_ended.new.self.future e cargo c.self.invariant c.frames.ensures.value c.are_kept.ensures.rising c.frames.ensures.books c.in-Some.ensures.seen c.in-Some.ensures.cargo.0 in
-    own_frame old e cargo left x
+    let x : IsEnding old e cargo left = ending old c.args.after c.frames.result.now c.next_ended.new.self.future e cargo c.self.invariant c.frames.ensures.value c.are_kept.ensures.rising c.frames.ensures.books c.in-Some.ensures.seen c.in-Some.ensures.cargo.0 in
+    record { own = own_frame old e cargo left x; }
 
 pub unhold_all-requires : goal.unhold_all-requires
 unhold_all-requires c =
@@ -65,9 +59,11 @@ unhold_all-requires c =
     let e = c.in-Some.over.ended in
     let cargo = c.in-Some.over.cargo in
     let left = c.next_ended.new.self.future.flights in
-    let x : IsEnding old e cargo left = ending old c.args.after c.frames.result c.next_ended.new.self.future e cargo c.self.invariant c.frames.ensures.value c.are_kept.ensures.rising c.frames.ensures.books c.in-Some.ensures.seen c.in-Some.ensures.cargo.0 in
-    subst (λ (o : Objects). (h : ℕ) → times h c.as_slice.result ≤ number_at o.stored.holds h) (sym (c.end_flight.ensures (next_place (after old.history))))
-    (λ h. subst (λ reach. times h reach ≤ number_at old.objects.stored.holds h) (sym c.as_slice.ensures.value) (holds_it old e cargo left x h))
+    let x : IsEnding old e cargo left = ending old c.args.after c.frames.result.now c.next_ended.new.self.future e cargo c.self.invariant c.frames.ensures.value c.are_kept.ensures.rising c.frames.ensures.books c.in-Some.ensures.seen c.in-Some.ensures.cargo.0 in
+    record {
+      held = λ h. subst (λ (o : Objects). times h c.as_slice.result.now ≤ number_at o.stored.holds h) (sym (c.end_flight.ensures (next_place (after old.history))))
+          (subst (λ reach. times h reach ≤ number_at old.objects.stored.holds h) (sym c.as_slice.ensures.value) (holds_it old e cargo left x h));
+    }
 
 pub bury-requires-clause-ranked : goal.bury-requires-clause-ranked
 bury-requires-clause-ranked c =
@@ -75,7 +71,7 @@ bury-requires-clause-ranked c =
     let e = c.in-Some.over.ended in
     let cargo = c.in-Some.over.cargo in
     let left = c.next_ended.new.self.future.flights in
-    let x : IsEnding old e cargo left = ending old c.args.after c.frames.result c.next_ended.new.self.future e cargo c.self.invariant c.frames.ensures.value c.are_kept.ensures.rising c.frames.ensures.books c.in-Some.ensures.seen c.in-Some.ensures.cargo.0 in
+    let x : IsEnding old e cargo left = ending old c.args.after c.frames.result.now c.next_ended.new.self.future e cargo c.self.invariant c.frames.ensures.value c.are_kept.ensures.rising c.frames.ensures.books c.in-Some.ensures.seen c.in-Some.ensures.cargo.0 in
     let moves : c.unhold_all.new.objects ≡ moved old e cargo left x = c.unhold_all.ensures ∙ ap (λ reach. with_holds c.end_flight.new.objects (held_less reach c.end_flight.new.objects.stored.holds)) c.as_slice.ensures.value
     ∙ ap (λ (o : Objects). with_holds o (held_less cargo.kept.reach.items o.stored.holds)) (c.end_flight.ensures (next_place (after old.history))) in
     subst (λ (o : Objects). IsRanked o.stored.state.objects) (sym moves) (ranked old.history (note e.left e.ticket) (moved old e cargo left x).stored (follows old e cargo left x))
@@ -86,7 +82,7 @@ bury-requires-clause-none c =
     let e = c.in-Some.over.ended in
     let cargo = c.in-Some.over.cargo in
     let left = c.next_ended.new.self.future.flights in
-    let x : IsEnding old e cargo left = ending old c.args.after c.frames.result c.next_ended.new.self.future e cargo c.self.invariant c.frames.ensures.value c.are_kept.ensures.rising c.frames.ensures.books c.in-Some.ensures.seen c.in-Some.ensures.cargo.0 in
+    let x : IsEnding old e cargo left = ending old c.args.after c.frames.result.now c.next_ended.new.self.future e cargo c.self.invariant c.frames.ensures.value c.are_kept.ensures.rising c.frames.ensures.books c.in-Some.ensures.seen c.in-Some.ensures.cargo.0 in
     let moves : c.unhold_all.new.objects ≡ moved old e cargo left x = c.unhold_all.ensures ∙ ap (λ reach. with_holds c.end_flight.new.objects (held_less reach c.end_flight.new.objects.stored.holds)) c.as_slice.ensures.value
     ∙ ap (λ (o : Objects). with_holds o (held_less cargo.kept.reach.items o.stored.holds)) (c.end_flight.ensures (next_place (after old.history))) in
     ap (λ (o : Objects). o.dead) moves ∙ ap (λ (i : Inside). i.objects.dead) c.self.view_is ∙ c.requires.all_told
@@ -97,7 +93,7 @@ invariant_of-self-2 c =
     let e = c.in-Some.over.ended in
     let cargo = c.in-Some.over.cargo in
     let left = c.next_ended.new.self.future.flights in
-    let x : IsEnding old e cargo left = ending old c.args.after c.frames.result c.next_ended.new.self.future e cargo c.self.invariant c.frames.ensures.value c.are_kept.ensures.rising c.frames.ensures.books c.in-Some.ensures.seen c.in-Some.ensures.cargo.0 in
+    let x : IsEnding old e cargo left = ending old c.args.after c.frames.result.now c.next_ended.new.self.future e cargo c.self.invariant c.frames.ensures.value c.are_kept.ensures.rising c.frames.ensures.books c.in-Some.ensures.seen c.in-Some.ensures.cargo.0 in
     let moves : c.unhold_all.new.objects ≡ moved old e cargo left x = c.unhold_all.ensures ∙ ap (λ reach. with_holds c.end_flight.new.objects (held_less reach c.end_flight.new.objects.stored.holds)) c.as_slice.ensures.value
     ∙ ap (λ (o : Objects). with_holds o (held_less cargo.kept.reach.items o.stored.holds)) (c.end_flight.ensures (next_place (after old.history))) in
     noted_parts old (record { objects = c.bury.new.objects; flights = c.bury.new.flights; worlds = c.bury.new.worlds; history = c.push_reserved.new.self.items; room = vec_capacity c.push_reserved.new.self; builds = c.self.inside.builds }) e cargo left x
@@ -122,7 +118,7 @@ returns-clause-noted c =
     let e = c.in-Some.over.ended in
     let cargo = c.in-Some.over.cargo in
     let left = c.next_ended.new.self.future.flights in
-    let x : IsEnding old e cargo left = ending old c.args.after c.frames.result c.next_ended.new.self.future e cargo c.self.invariant c.frames.ensures.value c.are_kept.ensures.rising c.frames.ensures.books c.in-Some.ensures.seen c.in-Some.ensures.cargo.0 in
+    let x : IsEnding old e cargo left = ending old c.args.after c.frames.result.now c.next_ended.new.self.future e cargo c.self.invariant c.frames.ensures.value c.are_kept.ensures.rising c.frames.ensures.books c.in-Some.ensures.seen c.in-Some.ensures.cargo.0 in
     let moves : c.unhold_all.new.objects ≡ moved old e cargo left x = c.unhold_all.ensures ∙ ap (λ reach. with_holds c.end_flight.new.objects (held_less reach c.end_flight.new.objects.stored.holds)) c.as_slice.ensures.value
     ∙ ap (λ (o : Objects). with_holds o (held_less cargo.kept.reach.items o.stored.holds)) (c.end_flight.ensures (next_place (after old.history))) in
     let notices = c.bury.ensures.notices ∙ ap (λ (o : Objects). filter_map end_of_object (gone o.stored.state c.bury.new.objects.stored.state)) moves in
@@ -139,7 +135,7 @@ returns-clause-noted c =
       grown = c.push_reserved.ensures.items ∙ ap (λ n. old.history ++ n ∷ []) c.note_of.ensures;
       left = ap (λ (b : Books Load). b.future) c.bury.ensures.flights;
       cargo = ap (λ (b : Books Load). b.cargo) c.bury.ensures.flights ∙ c.in-Some.ensures.cargo.1;
-      over = ap (λ (b : Books Load). b.over) c.bury.ensures.flights ∙ c.next_ended.ensures.over;
+      over = ap (λ (b : Books Load). b.over) c.bury.ensures.flights ∙ c.in-Some.ensures.over;
       told = noted_told old (record { objects = c.bury.new.objects; flights = c.bury.new.flights; worlds = c.bury.new.worlds; history = c.push_reserved.new.self.items; room = vec_capacity c.push_reserved.new.self; builds = c.self.inside.builds }) e cargo left x
           (subst CountsItsObjects (c.store.ensures ∙ ap (λ (o : Objects). o.stored) moves) c.counts_its_objects.ensures)
           (subst CountsItsObjects c.store-2.ensures c.counts_its_objects-2.ensures)
