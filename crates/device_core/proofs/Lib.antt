@@ -5,5 +5,7 @@ pub mod HoldFacts
 pub mod KeptFacts
 pub mod LookFacts
 pub mod NotedFacts
+pub mod OnceFacts
 pub mod RoomFacts
 pub mod SeenFacts
+pub mod ShownFacts

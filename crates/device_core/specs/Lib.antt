@@ -4,3 +4,4 @@ pub mod Graves
 pub mod Holds
 pub mod AllParts
 pub mod Notes
+pub mod Renders

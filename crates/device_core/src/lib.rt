@@ -9,7 +9,9 @@ mod holds;
 mod loads;
 mod notes;
 mod parts;
+mod renders;
 
 pub use graves::Grave;
 pub use loads::Load;
 pub use parts::Parts;
+pub use renders::{Build, NewLoad, load_of};
