@@ -6,6 +6,8 @@ pub mod HoldFacts
 pub mod KeptFacts
 pub mod LookFacts
 pub mod NotedFacts
+pub mod OnceFacts
 pub mod SeenFacts
+pub mod ShownFacts
 pub mod SweepFacts
 pub mod TellFacts

@@ -5,4 +5,5 @@ pub mod AllParts
 pub mod Deaths
 pub mod Standing
 pub mod Notes
+pub mod Renders
 pub mod Sweeps

@@ -8,7 +8,9 @@ mod holds;
 mod loads;
 mod notes;
 mod parts;
+mod renders;
 mod sweeps;
 
 pub use loads::Load;
 pub use parts::Parts;
+pub use renders::{Build, NewLoad, load_of};

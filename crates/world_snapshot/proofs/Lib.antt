@@ -1,3 +1,3 @@
 mod CapturedFacts
 mod Orders
-mod WorldFacts
+pub mod WorldFacts

@@ -1,5 +1,5 @@
 //! Prepared worlds.
-ghost use Rattle.std.specs.Prelude.{ℕ, ◌≡◌, ◌<◌, ◌≤◌, ◌^◌, None, Some, IfErr, IfOk, length, slice_get};
+ghost use Rattle.std.specs.Prelude.{ℕ, ◌≡◌, ◌<◌, ◌≤◌, ◌^◌, All, None, Some, IfErr, IfOk, length, slice_get};
 ghost use Rattle.std.specs.Option.{option_map};
 ghost use Rattle.kind_tables.specs.SceneObjects.{object_at};
 ghost use Rattle.kind_tables.specs.Scenes.{lights_of, primitives_of};
@@ -9,6 +9,7 @@ ghost use Rattle.kind_tables.specs.Walks.{walk};
 ghost use Rattle.kind_tables.specs.declared.kinds.Kind.TheVariants.{WorldDefault};
 ghost use Rattle.picture_model.specs.Shading.{primitive_at};
 ghost use Rattle.scene_read.specs.Roots.{IsWalkRefusal};
+ghost use Rattle.scene_read.specs.SceneReads.{IsReadLight};
 ghost use Rattle.scene_read.specs.Starts.{all_seen, starts_of};
 ghost use Rattle.world_snapshot.specs.Worlds.{IsShownBy, IsTreeOver, IsWorldWithin};
 
@@ -34,13 +35,15 @@ struct World {
 }
 
 impl Model for World {
+    ghost use Rattle.std.specs.Prelude.{All};
+    ghost use Rattle.scene_read.specs.SceneReads.{IsReadLight};
     ghost use Rattle.world_snapshot.specs.Worlds.{IsIndexed, World as TheWorld};
 
     ghost Value = { TheWorld };
 
     ghost view = { λ w. record { primitives = w.rows; lights = w.lights } };
 
-    ghost invariant = { λ w. IsIndexed w.rows w.tree w.in_order };
+    ghost invariant = { λ w. IsIndexed w.rows w.tree w.in_order × All IsReadLight w.lights };
 }
 
 /// The primitives and the lights of a world, as they were when it was prepared, with a tree of boxes over the primitives. It shares
@@ -62,7 +65,8 @@ impl Model for Prepared {
 
 impl World {
     fn new(rows: Rows, lights: LightList, tree: Tree) -> World
-        requires { IsTreeOver tree rows }
+        requires tree { IsTreeOver tree rows }
+        requires read { All IsReadLight lights }
         ensures primitives { result.primitives ≡ rows }
         ensures lights { result.lights ≡ lights }
     {
@@ -79,6 +83,13 @@ impl World {
         ensures { IsTreeOver result.now self.now.primitives }
     {
         &self.tree
+    }
+
+    fn lights(&self) -> &LightList
+        ensures value { result.now ≡ self.now.lights }
+        ensures read { All IsReadLight result.now }
+    {
+        &self.lights
     }
 
     fn primitive_at(&self, place: &Place) -> Option<Primitive>
@@ -103,16 +114,19 @@ impl Prepared {
         })
     }
 
-    /// The lights, in world space and in the order of the walk; at most 256 where the walk was not refused.
+    /// The lights, in world space and in the order of the walk; at most 256 where the walk was not refused. Their numbers are as they
+    /// were read of the objects.
     pub fn lights(&self) -> &LightList
-        ensures { result.now ≡ self.now.lights }
+        ensures value { result.now ≡ self.now.lights }
+        ensures read { All IsReadLight result.now }
     {
-        &self.world.lights
+        self.world.lights()
     }
 
     /// A copy of the lights. The only error is want of memory.
     pub(crate) fn copied_lights(&self, alloc: Global) -> Result<LightList, NoMemory>
-        ensures { IfOk result (λ lights. lights ≡ self.now.lights) }
+        ensures value { IfOk result (λ lights. lights ≡ self.now.lights) }
+        ensures read { All IsReadLight self.now.lights }
     {
         Ok(copied_lights(alloc, self.lights())?)
     }
@@ -172,7 +186,7 @@ fn tree_of(alloc: Global, rows: &Rows) -> Result<Tree, NoMemory>
 }
 
 /// A copy of some lights. The only error is want of memory.
-fn copied_lights(alloc: Global, lights: &LightList) -> Result<LightList, AllocError>
+pub(crate) fn copied_lights(alloc: Global, lights: &LightList) -> Result<LightList, AllocError>
     ensures { IfOk result (λ copy. copy ≡ lights.now) }
 {
     let mut copy = Vec::new(alloc);

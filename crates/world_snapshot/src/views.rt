@@ -11,9 +11,9 @@ ghost use Rattle.picture_model.specs.Limits.{IsSceneWithin};
 ghost use Rattle.scene_read.specs.Shown.{lit};
 ghost use Rattle.scene_read.specs.Starts.{visited_object};
 ghost use Rattle.world_snapshot.specs.Views.{scene_shown};
-ghost use Rattle.world_snapshot.specs.Worlds.{IsShownBy, IsWorldWithin};
+ghost use Rattle.world_snapshot.specs.Worlds.{IsShownBy};
 
-use crate::prepared::Prepared;
+use crate::prepared::{Prepared, copied_lights};
 use dev_types::{Handle, NoMemory};
 use fx_math::{CameraRow, Lighting};
 use scene_read::{Objects, camera_of, lit, sides};
@@ -28,11 +28,30 @@ pub struct View {
     pub size: (u32, u32),
 }
 
+impl View {
+    /// The same view once more. The lights are copied. The only error is want of memory.
+    pub fn copied(&self, alloc: Global) -> Result<View, NoMemory>
+        ensures { IfOk result (λ view. view ≡ self.now) }
+    {
+        let lighting = Lighting {
+            lights: copied_lights(alloc, &self.lighting.lights)?,
+            background: self.lighting.background,
+            ambient_color: self.lighting.ambient_color,
+            ambient_radiance: self.lighting.ambient_radiance,
+        };
+        Ok(View {
+            camera: self.camera,
+            lighting,
+            size: self.size,
+        })
+    }
+}
+
 /// How a frame shows a prepared world, now (ANARI 1.0 Specification, Camera, Renderer, Frame). The lights are copied, at most 256
 /// where the walk was not refused. The only error is want of memory.
 ///
-/// Where the world shows what the walk from the frame shows, both together are the scene of the frame. Where the walk from the frame is
-/// not refused, and the prepared world keeps to the limits of pictures, they are within these: what is asked where tiles are rendered.
+/// Where the world shows what the walk from the frame shows, whenever it was prepared, both together are the scene of the frame; and
+/// where that walk is not refused, they are within the limits of pictures: what is asked where tiles are rendered.
 pub fn view_of<O: Objects>(
     alloc: Global,
     state: &O,
@@ -48,7 +67,7 @@ pub fn view_of<O: Objects>(
     ensures within { AreFit (O.objects state.now)
         → option_map (λ o. o.kind) (object_at (O.objects state.now) frame) ≡ Some FrameDefault
         → walk_refusal (O.objects state.now) (walk (O.objects state.now) frame) ≡ None
-        → IsWorldWithin prepared.now
+        → IsShownBy (O.objects state.now) (walk (O.objects state.now) frame) prepared.now
         → IfOk result (λ view. IsSceneWithin (scene_shown prepared.now view)) }
 {
     let lights = prepared.copied_lights(alloc)?;

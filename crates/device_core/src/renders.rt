@@ -1,0 +1,151 @@
+//! What a render takes along, before it changes anything.
+ghost use Rattle.std.specs.Prelude.{◌≡◌, Some, IfOk, IfSome};
+ghost use Rattle.std.specs.Option.{is_some};
+ghost use Rattle.kind_tables.specs.Scenes.{scene};
+ghost use Rattle.kind_tables.specs.Walks.{visited, walk};
+ghost use Rattle.picture_model.specs.Limits.{IsSceneWithin};
+ghost use Rattle.world_snapshot.specs.Worlds.{IsShownBy};
+ghost use Rattle.device_core.specs.AllParts.{scene_of_load};
+ghost use Rattle.device_core.specs.Renders.{
+  AreCurrent,
+  HasEachOnce,
+  IsBuildOf,
+  IsGranted,
+  handles_of,
+  wants_build,
+  world_in,
+};
+
+use crate::loads::Load;
+use dev_types::{Handle, NoMemory};
+use kept_worlds::KeptWorlds;
+use scene_read::readers::named;
+use scene_read::{Objects, Visits, visits_from};
+use std::alloc::{AllocError, Global};
+use world_snapshot::{Prepared, prepare_visited, view_of};
+
+/// A world that was prepared, as it is to be kept.
+#[derive(Drop)]
+pub struct Build {
+    pub world: Handle,
+    /// All that the walk from the world visits.
+    pub reach: Vec<Handle>,
+    pub prepared: Prepared,
+}
+
+/// What a render takes along.
+#[derive(Drop)]
+pub struct NewLoad {
+    /// What is kept with its flight.
+    pub load: Load,
+    /// The world of the frame, where it was not kept and is to be.
+    pub build: Option<Build>,
+}
+
+/// The handles of what is visited. The only error is want of memory.
+fn handles_of(alloc: Global, visits: &Visits) -> Result<Vec<Handle>, AllocError>
+    ensures { IfOk result (λ handles. handles.items ≡ handles_of visits.now) }
+{
+    visits.as_slice().iter().map(|v| v.handle).collect(alloc)
+}
+
+/// Leaves each of some handles once.
+fn leave_each_once(handles: &mut Vec<Handle>)
+    ensures { HasEachOnce handles.old.items handles.new.items }
+{
+    handles.sort_unstable();
+    handles.dedup();
+}
+
+/// What a walk reached, each object once. The only error is want of memory.
+fn reach_of(alloc: Global, visits: &Visits) -> Result<Vec<Handle>, AllocError>
+    ensures { IfOk result (λ reach. HasEachOnce (handles_of visits.now) reach.items) }
+{
+    let mut reach = handles_of(alloc, visits)?;
+    leave_each_once(&mut reach);
+    Ok(reach)
+}
+
+/// Prepares the world of a frame, by the visits of the walk from the frame. The only error is want
+/// of memory.
+fn build_of<O: Objects>(
+    alloc: Global,
+    state: &O,
+    frame: Handle,
+    world: Handle,
+    visits: &Visits,
+) -> Result<Build, NoMemory>
+    requires granted { IsGranted (O.objects state.now) frame visits.now }
+    requires world { world_in (O.objects state.now) frame ≡ Some world }
+    ensures { IfOk result (IsBuildOf (O.objects state.now) frame) }
+{
+    let prepared = prepare_visited(alloc, state, visits)?;
+    let reached = visits_from(alloc, state, world)?;
+    let reach = handles_of(alloc, &reached)?;
+    Ok(Build {
+        world,
+        reach,
+        prepared,
+    })
+}
+
+/// What a frame shows, prepared: its world as it is kept, or as it is prepared now. The only error
+/// is want of memory.
+fn prepared_for<O: Objects>(
+    alloc: Global,
+    state: &O,
+    worlds: &KeptWorlds<Prepared>,
+    frame: Handle,
+    visits: &Visits,
+) -> Result<(Prepared, Option<Build>), NoMemory>
+    requires granted { IsGranted (O.objects state.now) frame visits.now }
+    requires kept { AreCurrent (O.objects state.now) worlds.now }
+    ensures shown { IfOk result (λ p. IsShownBy (O.objects state.now)
+        (walk (O.objects state.now) frame) p.0) }
+    ensures wanted { IfOk result (λ p. is_some p.1
+        ≡ wants_build (O.objects state.now) worlds.now frame) }
+    ensures build { IfOk result (λ p. IfSome p.1 (IsBuildOf (O.objects state.now) frame)) }
+{
+    let Some(world) = named(state, frame, "world") else {
+        return Ok((prepare_visited(alloc, state, visits)?, None));
+    };
+    if let Some(kept) = worlds.get(world) {
+        return Ok((kept.share(alloc)?, None));
+    }
+    let build = build_of(alloc, state, frame, world, visits)?;
+    Ok((build.prepared.share(alloc)?, Some(build)))
+}
+
+/// What a render of a frame takes along (ANARI 1.0 Specification, rendering frames), before it
+/// changes anything: what the walk from the frame reached, each object once, and its scene. Where
+/// the world of the frame is kept, it is shared, and nothing is prepared; else it comes along as it
+/// is to be kept. The only error is want of memory.
+///
+/// The walk was not refused, and what is kept of worlds shows what they show now.
+pub fn load_of<O: Objects>(
+    alloc: Global,
+    state: &O,
+    worlds: &KeptWorlds<Prepared>,
+    frame: Handle,
+    visits: &Visits,
+) -> Result<NewLoad, NoMemory>
+    requires granted { IsGranted (O.objects state.now) frame visits.now }
+    requires kept { AreCurrent (O.objects state.now) worlds.now }
+    ensures reach { IfOk result (λ n. HasEachOnce (visited (walk (O.objects state.now) frame))
+        n.load.reach.items) }
+    ensures scene { IfOk result (λ n. scene_of_load n.load ≡ scene (O.objects state.now) frame) }
+    ensures within { IfOk result (λ n. IsSceneWithin (scene_of_load n.load)) }
+    ensures wanted { IfOk result (λ n. is_some n.build
+        ≡ wants_build (O.objects state.now) worlds.now frame) }
+    ensures build { IfOk result (λ n. IfSome n.build (IsBuildOf (O.objects state.now) frame)) }
+{
+    let reach = reach_of(alloc, visits)?;
+    let (prepared, build) = prepared_for(alloc, state, worlds, frame, visits)?;
+    let view = view_of(alloc, state, frame, &prepared)?;
+    let load = Load {
+        reach,
+        prepared,
+        view,
+    };
+    Ok(NewLoad { load, build })
+}
