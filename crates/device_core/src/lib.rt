@@ -8,6 +8,7 @@ mod holds;
 mod loads;
 mod notes;
 mod parts;
+mod records;
 mod renders;
 mod sweeps;
 
