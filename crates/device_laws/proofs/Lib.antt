@@ -4,9 +4,11 @@ pub mod FlightFacts
 pub mod FlightSteps
 pub mod FlownFacts
 pub mod FrameFacts
+pub mod FramesStandFacts
 pub mod FutureFacts
 pub mod LentFacts
 pub mod LoanSteps
+pub mod NoteFacts
 pub mod PhaseFacts
 pub mod ReachFacts
 pub mod RenderFacts
