@@ -1,4 +1,4 @@
-use Rattle.std.proofs.Common.{◌≡◌, ◌∙◌, ap, sym}
+use Rattle.std.proofs.Common.{◌∙◌, ap, sym}
 use Rattle.std.specs.Prelude.{cond}
 use Rattle.kind_tables.specs.Walks.{visited}
 use Rattle.device_core.proofs.ShownFacts.{handles_seen}
