@@ -2,7 +2,7 @@
 use Rattle.std.proofs.Common.{◌≡◌, ◌∙◌, ◌⊎◌, inl, inr, ℕ, ◌+◌, ◌<◌, ◌≤◌, ◌&&◌, Bool, true, false, not, cond, List, [], ◌∷◌, ◌++◌, Option, Some, None, length, length-append, refl, sym, ap, subst, arith}
 use Rattle.std.specs.List.{AllByRecursion}
 use Rattle.std.specs.Map.{keys_of}
-use Rattle.std.specs.Option.{MatchOption, is_some, option_map, unwrap_or}
+use Rattle.std.specs.Option.{MatchOption, is_some, option_and_then, option_map, option_map_or, unwrap_or}
 use Rattle.dev_types.specs.Counting.{times}
 use Rattle.flight_books.specs.Kept.{is_of, without}
 use Rattle.flight_books.specs.declared.kept.Cargo.{Cargo}
@@ -24,9 +24,11 @@ use Rattle.seq_model.specs.declared.calls.Entry.TheVariants.{Closed}
 use Rattle.seq_model.proofs.Afters.{after_more}
 use Rattle.seq_model.proofs.Changes.{entry_changes}
 use Rattle.seq_model.proofs.Reached.{reach_early, step_reached}
-use Rattle.past_laws.specs.Worlds.{Use, last_use}
+use Rattle.past_laws.specs.Worlds.{Use, last_use, wants_build, world_of}
+use Rattle.past_laws.proofs.WorldFacts.{builds_more}
 use Rattle.device_laws.proofs.FlightFacts.{still_there}
 use Rattle.device_laws.proofs.RenderFacts.{scene_early}
+use Rattle.device_laws.specs.FramesStand.{LeavesBut}
 use Rattle.device_laws.specs.Flown.{Flown, LetsNotes, runs_of}
 use Rattle.kept_worlds.proofs.BirthFacts.{was_there}
 use Rattle.kept_worlds.proofs.LastFacts.{nothing_gone}
@@ -87,6 +89,32 @@ stays_there history e w going was = by (object_at (after history).state w) refl 
         still_there (next_place (after history)) e (after history).state (change (next_place (after history)) e (after history).state)
         (entry_changes (next_place (after history)) e (after history).state) going w o some
 
+-- an entry that renders nothing prepares no world
+pub same_builds : (history : History) (e : Entry) → rendered e ≡ None → builds (history ++ e ∷ []) ≡ builds history
+same_builds history e quiet =
+    builds_more history e
+    ∙ ap (λ o. builds history + cond (option_map_or (λ w. wants_build (last_use history w)) (option_and_then (world_of (after history).state) o) false) 1 0) quiet
+    ∙ plus_none (builds history)
+  where
+    plus_none : (n : ℕ) → n + 0 ≡ n
+    plus_none n = omega arith
+
+-- what an entry leaves, once what nothing holds any more is gone
+module _ (history : History) (e : Entry) (moved left : Stored) (dead : List ℕ) (going : e ≡ Closed → ⊥)
+    (follows : Follows moved history e) (counted_moved : CountsItsObjects moved) (counted : CountsItsObjects left)
+    (is_left : IsLeft moved left) (is_buried : left.state ≡ buried moved) (dies : dead ≡ keys_of (gone moved.state left.state)) where
+  pub rests_after : IsAtRest left (history ++ e ∷ [])
+  rests_after = rests history e moved follows left counted_moved counted is_left is_buried
+
+  -- of the objects that were there, those are left that did not die
+  pub leaves : LeavesBut history e dead
+  leaves w was =
+      let here : has w (keys_of moved.state.objects) ≡ true =
+      has_key w moved.state.objects ∙ ap (λ (s : State). is_some (object_at s w)) follows.state ∙ stays_there history e w going was in
+      ap (λ ks. not (has w ks)) dies
+      ∙ left_of moved.state.objects left.state.objects w here
+      ∙ ap (λ (s : State). is_some (object_at s w)) rests_after.state
+
 module _ (old new : Inside) (e : Entry) (moved : Stored) (mid : Worlds World) (p : AreParts old) (going : e ≡ Closed → ⊥)
     (follows : Follows moved old.history e) (counted_moved : CountsItsObjects moved) (counted : CountsItsObjects new.objects.stored)
     (is_left : IsLeft moved new.objects.stored) (is_buried : new.objects.stored.state ≡ buried moved)
@@ -101,17 +129,8 @@ module _ (old new : Inside) (e : Entry) (moved : Stored) (mid : Worlds World) (p
     (known : (history : History) (there : ℕ → Bool) → AreKept there history (reach_at mid) → AreKept (all_but_those new.objects.departed there) history (reach_at new.worlds))
     (built : new.builds ≡ builds (old.history ++ e ∷ []))
     (places : length new.history + length new.flights.future.flights < new.room) where
-  rests_after : IsAtRest new.objects.stored (old.history ++ e ∷ [])
-  rests_after = rests old.history e moved follows new.objects.stored counted_moved counted is_left is_buried
-
-  -- of the worlds that were there, those are left that did not die
-  left_there : (w : ℕ) → is_there old.history w ≡ true → (not (has w new.objects.departed) && true) ≡ is_there (old.history ++ e ∷ []) w
-  left_there w was =
-      let here : has w (keys_of moved.state.objects) ≡ true =
-      has_key w moved.state.objects ∙ ap (λ (s : State). is_some (object_at s w)) follows.state ∙ stays_there old.history e w going was in
-      ap (λ ks. not (has w ks) && true) departed
-      ∙ left_of moved.state.objects new.objects.stored.state.objects w here
-      ∙ ap (λ (s : State). is_some (object_at s w)) rests_after.state
+  leaves_all : LeavesBut old.history e new.objects.departed
+  leaves_all = leaves old.history e moved new.objects.stored new.objects.departed going follows counted_moved counted is_left is_buried departed
 
   -- a world that comes was never rendered
   comes : (w : ℕ) (now : Bool) → is_there old.history w ≡ false → is_there (old.history ++ e ∷ []) w ≡ now → kept_by now (last_use (old.history ++ e ∷ []) w) ≡ None
@@ -129,7 +148,12 @@ module _ (old new : Inside) (e : Entry) (moved : Stored) (mid : Worlds World) (p
       ∙ by (is_there old.history w) refl
     where
       by : (b : Bool) → is_there old.history w ≡ b → kept_by (not (has w new.objects.departed) && b) (last_use (old.history ++ e ∷ []) w) ≡ kept_by (is_there (old.history ++ e ∷ []) w) (last_use (old.history ++ e ∷ []) w)
-      by true was = ap (λ t. kept_by t (last_use (old.history ++ e ∷ []) w)) (left_there w was)
+      by true was = ap (λ t. kept_by t (last_use (old.history ++ e ∷ []) w)) (and_true (not (has w new.objects.departed)) ∙ leaves_all w was)
+        where
+          and_true : (b : Bool) → (b && true) ≡ b
+          and_true true = refl
+          and_true false = refl
+
       by false was =
           ap (λ t. kept_by t (last_use (old.history ++ e ∷ []) w)) (and_false (not (has w new.objects.departed))) ∙ nothing_gone (last_use (old.history ++ e ∷ []) w)
           ∙ sym (comes w (is_there (old.history ++ e ∷ []) w) was refl)
@@ -155,7 +179,8 @@ module _ (old new : Inside) (e : Entry) (moved : Stored) (mid : Worlds World) (p
 
   pub parts_after : AreParts new
   parts_after = record {
-    rest = subst (IsAtRest new.objects.stored) (sym grown) rests_after;
+    rest = subst (IsAtRest new.objects.stored) (sym grown)
+        (rests_after old.history e moved new.objects.stored new.objects.departed going follows counted_moved counted is_left is_buried departed);
     flown = subst (λ h. Flown h (runs_of new.flights.future.flights)) (sym grown) flown;
     loaded = subst (λ h. AllByRecursion (IsLoaded h) new.flights.cargo) (sym grown) loaded;
     lets = subst LetsNotes (sym grown) lets;

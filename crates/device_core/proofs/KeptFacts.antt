@@ -45,14 +45,14 @@ has_filtered {X} q w (e ∷ es) = go (cases_Bool (q e.0)) (cases_Bool (e.0 == w)
     go (inr fails) (inr other) rest =
         ap (λ b. q w && (b || has w (keys_of es))) other ∙ rest ∙ sym (ap (λ b. has w (keys_of (cond b (e ∷ filter (λ x. q x.0) es) (filter (λ x. q x.0) es)))) fails)
 
-not_not : (n : Bool) → (not (not n && true) && true) ≡ n
+not_not : (n : Bool) → not (not n && true) ≡ n
 not_not true = refl
 not_not false = refl
 
 -- of what was there, that is there now which did not die
 pub left_of : {X : Type 0} (moved now : List (ℕ × X)) (w : ℕ) → has w (keys_of moved) ≡ true →
-    (not (has w (keys_of (filter (λ e. not (has e.0 (keys_of now))) moved))) && true) ≡ is_some (at w now)
+    not (has w (keys_of (filter (λ e. not (has e.0 (keys_of now))) moved))) ≡ is_some (at w now)
 left_of moved now w there =
-    ap (λ d. not d && true) (sym (has_filtered (λ k. not (has k (keys_of now))) w moved))
-    ∙ ap (λ m. not (not (has w (keys_of now)) && m) && true) there
+    ap not (sym (has_filtered (λ k. not (has k (keys_of now))) w moved))
+    ∙ ap (λ m. not (not (has w (keys_of now)) && m)) there
     ∙ not_not (has w (keys_of now)) ∙ has_key w now

@@ -1,4 +1,5 @@
 -- Lemmas of this crate.
+pub mod CalledFacts
 pub mod EndFacts
 pub mod EntryFacts
 pub mod FollowFacts

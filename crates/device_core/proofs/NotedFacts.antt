@@ -33,7 +33,10 @@ use Rattle.device_laws.specs.Flown.{Flown, IsNoted, IsRun, LetsNotes, Run, note_
 use Rattle.device_laws.proofs.SweepFacts.{one_noted, tickets_of_runs}
 use Rattle.device_laws.proofs.StandingFacts.{found}
 use Rattle.device_core.specs.AllParts.{AreParts, Inside, IsLoaded, shown_by}
-use Rattle.device_core.proofs.EntryFacts.{others_loaded, parts_after}
+use Rattle.device_laws.specs.FramesStand.{FramesStand, without_pictures}
+use Rattle.device_laws.proofs.NoteFacts.{note_kept}
+use Rattle.device_core.specs.Standing.{IsStanding}
+use Rattle.device_core.proofs.EntryFacts.{leaves, others_loaded, parts_after, same_builds}
 use Rattle.kept_worlds.proofs.LastFacts.{stay_known}
 use Rattle.kept_worlds.proofs.NowFacts.{shown_over}
 use Rattle.world_laws.specs.Alike.{shown_of}
@@ -94,16 +97,6 @@ quiet false t = refl
 untouched : (stopped : Bool) (t : ℕ) (objects : List ℕ) → is_touching objects (note stopped t) ≡ false
 untouched true t objects = refl
 untouched false t objects = refl
-
--- a note prepares no world
-same_builds : (history : History) (stopped : Bool) (t : ℕ) → builds (history ++ note stopped t ∷ []) ≡ builds history
-same_builds history stopped t =
-    builds_more history (note stopped t)
-    ∙ ap (λ o. builds history + cond (option_map_or (λ w. wants_build (last_use history w)) (option_and_then (world_of (after history).state) o) false) 1 0) (quiet stopped t)
-    ∙ plus_none (builds history)
-  where
-    plus_none : (n : ℕ) → n + 0 ≡ n
-    plus_none n = omega arith
 
 -- a flight of parts of which all holds is over, with what was kept with it
 pub record IsEnding (old : Inside) (e : Ended) (c : Cargo Load) (left : List Flying) : Type 0 where
@@ -189,7 +182,7 @@ module _ (old new : Inside) (e : Ended) (c : Cargo Load) (left : List Flying) (x
       (stay_known old.history (note e.left e.ticket) (is_there old.history) (reach_at old.worlds) (ap (option_and_then (world_of (after old.history).state)) (quiet e.left e.ticket))
       (untouched e.left e.ticket) x.parts.kept)
       x.parts.shown forgotten known
-      (same ∙ x.parts.built ∙ sym (same_builds old.history e.left e.ticket))
+      (same ∙ x.parts.built ∙ sym (same_builds old.history (note e.left e.ticket) (quiet e.left e.ticket)))
       (let was = x.parts.places in let longer = ap length grown ∙ length-append old.history (note e.left e.ticket ∷ []) in let less = ap length flights in
       let one = x.fewer in
       omega (arith, was, longer, less, one, room))
@@ -208,3 +201,12 @@ module _ (old new : Inside) (e : Ended) (c : Cargo Load) (left : List Flying) (x
       let dead = ap length notices in
       let same_ = noted_tellable (next_place (after old.history)) e.left e.ticket old.objects.stored.state in
       omega (arith, parts, dead, same_)
+
+  -- and the frames stand on
+  pub noted_stands : (last : ℕ) (looked : Future) → AreSeen last old.flights.future looked (Some e) → new.flights.future ≡ without_pictures looked new.objects.departed
+      → IsStanding old → IsStanding new
+  noted_stands last looked seen frames stands =
+      subst (λ h. FramesStand h new.flights.future) (sym grown) (subst (FramesStand (old.history ++ note e.left e.ticket ∷ [])) (sym frames)
+      (note_kept old.history last old.flights.future looked e new.objects.departed x.parts.rest.legal x.rising x.parts.flown seen
+      (leaves old.history (note e.left e.ticket) (moved old e c left x).stored new.objects.stored new.objects.departed (no_close e.left e.ticket) (follows old e c left x)
+      counted_moved counted is_left is_buried departed) stands))

@@ -19,7 +19,7 @@ use Rattle.device_core.specs.Notes.{HasNoted, HasNotedNothing, note}
 use Rattle.device_core.specs.Standing.{IsStanding}
 use Rattle.device_core.specs.Sweeps.{HasSwept, showing}
 use Rattle.device_core.specs.declared.loads.Load.{Load}
-use Rattle.device_core.proofs.SeenFacts.{pictures_only}
+use Rattle.device_laws.proofs.FramesStandFacts.{fewer_kept}
 
 -- a look at flights sees the same whatever pictures there are
 seen_with : (last : ℕ) (old new : Future) (result : Option Ended) (pictures : List Finished) → (s : AreSeen last old new result)
@@ -58,7 +58,7 @@ sweeping_begins old home dead above = record {
 
 module _ (old now mid : Inside) (last t : ℕ) (s : IsSweeping old now last) (noted : HasNoted last now mid t) where
   flights_are : mid.flights.future.flights ≡ noted.looked.flights
-  flights_are = ap (λ (f : Future). f.flights) noted.left ∙ pictures_only noted.looked mid.objects.departed
+  flights_are = ap (λ (f : Future). f.flights) noted.left ∙ (fewer_kept noted.looked mid.objects.departed).0
 
   pub sweeping_fewer : length mid.flights.future.flights + 1 ≡ length now.flights.future.flights
   sweeping_fewer = let one = fewer last now.flights.future noted.looked noted.ended noted.seen in let same = ap length flights_are in omega (arith, one, same)

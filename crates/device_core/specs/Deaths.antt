@@ -2,16 +2,11 @@
 use Rattle.std.specs.Prelude.{ℕ, Bool, List, [], Option, None, fold, length, if◌then◌else◌}
 use Rattle.std.specs.List.{filter_map}
 use Rattle.seq_model.specs.Life.{has}
-use Rattle.frame_future.specs.Future.{Future, without_picture}
 use Rattle.kept_worlds.specs.KeptMaps.{Kept}
 use Rattle.kept_worlds.specs.LastKept.{all_but}
 use Rattle.object_store.specs.Ends.{notice_of}
 use Rattle.object_steps.specs.Objects.{Objects}
 use Rattle.device_core.specs.AllParts.{Inside}
-
--- the frames that are in flight or done, without the pictures of some that died
-abbrev pub without_pictures : Future → List ℕ → Future
-without_pictures s dead = fold without_picture s dead
 
 -- nothing is kept of a world that is among those that died
 abbrev pub unless_dead : {P : Type 0} → List ℕ → ℕ → Option (Kept P) → Option (Kept P)

@@ -5,5 +5,6 @@ pub mod AllParts
 pub mod Deaths
 pub mod Standing
 pub mod Notes
+pub mod Calls
 pub mod Renders
 pub mod Sweeps

@@ -12,7 +12,8 @@ use Rattle.seq_model.specs.Told.{told_by}
 use Rattle.seq_model.specs.declared.calls.Entry.{Entry}
 use Rattle.seq_model.specs.declared.calls.Entry.TheVariants.{Finished, Left}
 use Rattle.device_core.specs.AllParts.{Inside}
-use Rattle.device_core.specs.Deaths.{untold, without_pictures}
+use Rattle.device_core.specs.Deaths.{untold}
+use Rattle.device_laws.specs.FramesStand.{without_pictures}
 
 -- the note of a flight that ended, which was stopped or not
 abbrev pub note : Bool → ℕ → Entry

@@ -11,7 +11,8 @@ ghost use Rattle.object_store.specs.Gathers.{IsLeft, buried};
 ghost use Rattle.seq_model.specs.Histories.{History};
 ghost use Rattle.seq_model.specs.Soundness.{IsRanked};
 ghost use Rattle.seq_model.specs.Told.{end_of_object, gone};
-ghost use Rattle.device_core.specs.Deaths.{all_but_those, unless_dead, without_pictures};
+ghost use Rattle.device_core.specs.Deaths.{all_but_those, unless_dead};
+ghost use Rattle.device_laws.specs.FramesStand.{without_pictures};
 
 use dev_types::Handle;
 use flight_books::FlightBooks;

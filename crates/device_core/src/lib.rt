@@ -3,6 +3,7 @@
 #![tactic(auto)]
 
 mod burials;
+mod calls;
 mod ends;
 mod holds;
 mod loads;

@@ -19,7 +19,7 @@ pub(crate) struct Recorded<'a> {
     parts: &'a Parts,
 }
 
-impl Model for Recorded<'_> {
+impl<'a> Model for Recorded<'a> {
     ghost use Rattle.device_core.specs.AllParts.{AreParts, Inside as Insides};
     ghost use Rattle.device_core.specs.Standing.{IsStanding};
 

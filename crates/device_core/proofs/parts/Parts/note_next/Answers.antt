@@ -20,8 +20,10 @@ use Rattle.device_core.specs.Ends.{IsOwn}
 use Rattle.device_core.specs.Holds.{held_less, with_holds}
 use Rattle.device_core.specs.Notes.{HasNoted, HasNotedNothing, note}
 use Rattle.device_core.specs.declared.loads.Load.{Load}
-use Rattle.device_core.proofs.NotedFacts.{IsEnding, ending, follows, holds_it, moved, noted_fewer, noted_parts, noted_told, own_frame}
-use Rattle.device_core.proofs.SeenFacts.{none_seen, pictures_only, seen_count}
+use Rattle.device_core.proofs.NotedFacts.{IsEnding, ending, follows, holds_it, moved, noted_fewer, noted_parts, noted_stands, noted_told, own_frame}
+use Rattle.device_laws.proofs.FramesStandFacts.{fewer_kept, looked_stands}
+use Rattle.device_core.specs.Standing.{IsStanding}
+use Rattle.device_core.proofs.SeenFacts.{none_seen, seen_count}
 use Rattle.device_core.proofs.parts.Parts.note_next.Goals as goal
 
 -- where no flight ended, all holds as before
@@ -103,13 +105,13 @@ invariant_of-self-2 c =
     (c.bury.ensures.state ∙ ap (λ (o : Objects). buried o.stored) moves)
     (c.bury.ensures.departed ∙ ap (λ (o : Objects). keys_of (gone o.stored.state c.bury.new.objects.stored.state)) moves)
     (c.push_reserved.ensures.items ∙ ap (λ n. old.history ++ n ∷ []) c.note_of.ensures)
-    (ap (λ (b : Books Load). b.future.flights) c.bury.ensures.flights ∙ pictures_only c.next_ended.new.self.future c.bury.new.objects.departed)
+    (ap (λ (b : Books Load). b.future.flights) c.bury.ensures.flights ∙ (fewer_kept c.next_ended.new.self.future c.bury.new.objects.departed).0)
     (ap (λ (b : Books Load). b.cargo) c.bury.ensures.flights ∙ c.in-Some.ensures.cargo.1)
     c.bury.ensures.forgotten c.bury.ensures.known refl c.push_reserved.ensures.capacity
 
 pub returns-clause-home : goal.returns-clause-home
 returns-clause-home c =
-    let flights = ap (λ (b : Books Load). b.future.flights) c.bury.ensures.flights ∙ pictures_only c.next_ended.new.self.future c.bury.new.objects.departed in
+    let flights = ap (λ (b : Books Load). b.future.flights) c.bury.ensures.flights ∙ (fewer_kept c.next_ended.new.self.future c.bury.new.objects.departed).0 in
     subst (λ fs. (k : ℕ) (d : Flying) → k < length fs → (slice_index_or fs k d).home ≡ true) (sym flights) c.next_ended.ensures.home
 
 pub returns-clause-noted : goal.returns-clause-noted
@@ -143,7 +145,7 @@ returns-clause-noted c =
           (c.bury.ensures.state ∙ ap (λ (o : Objects). buried o.stored) moves)
           (c.bury.ensures.departed ∙ ap (λ (o : Objects). keys_of (gone o.stored.state c.bury.new.objects.stored.state)) moves)
           (c.push_reserved.ensures.items ∙ ap (λ n. old.history ++ n ∷ []) c.note_of.ensures)
-          (ap (λ (b : Books Load). b.future.flights) c.bury.ensures.flights ∙ pictures_only c.next_ended.new.self.future c.bury.new.objects.departed)
+          (ap (λ (b : Books Load). b.future.flights) c.bury.ensures.flights ∙ (fewer_kept c.next_ended.new.self.future c.bury.new.objects.departed).0)
           (ap (λ (b : Books Load). b.cargo) c.bury.ensures.flights ∙ c.in-Some.ensures.cargo.1)
           c.bury.ensures.forgotten c.bury.ensures.known refl c.push_reserved.ensures.capacity
           notices;
@@ -154,7 +156,7 @@ returns-clause-noted c =
           (c.bury.ensures.state ∙ ap (λ (o : Objects). buried o.stored) moves)
           (c.bury.ensures.departed ∙ ap (λ (o : Objects). keys_of (gone o.stored.state c.bury.new.objects.stored.state)) moves)
           (c.push_reserved.ensures.items ∙ ap (λ n. old.history ++ n ∷ []) c.note_of.ensures)
-          (ap (λ (b : Books Load). b.future.flights) c.bury.ensures.flights ∙ pictures_only c.next_ended.new.self.future c.bury.new.objects.departed)
+          (ap (λ (b : Books Load). b.future.flights) c.bury.ensures.flights ∙ (fewer_kept c.next_ended.new.self.future c.bury.new.objects.departed).0)
           (ap (λ (b : Books Load). b.cargo) c.bury.ensures.flights ∙ c.in-Some.ensures.cargo.1)
           c.bury.ensures.forgotten c.bury.ensures.known refl c.push_reserved.ensures.capacity
           notices;
@@ -172,3 +174,28 @@ returns-in-None-clause-noted c =
       over = c.in-None.ensures.over ∙ append-nil c.self.inside.flights.over;
       rest = refl;
     })
+
+pub returns-clause-stands : goal.returns-clause-stands
+returns-clause-stands c =
+    let old : Inside = record { objects = c.self.inside.objects; flights = c.self.inside.flights; worlds = c.self.inside.worlds; history = c.self.inside.journal.items; room = vec_capacity c.self.inside.journal; builds = c.self.inside.builds } in
+    let e = c.in-Some.over.ended in
+    let cargo = c.in-Some.over.cargo in
+    let left = c.next_ended.new.self.future.flights in
+    let x : IsEnding old e cargo left = ending old c.args.after c.frames.result.now c.next_ended.new.self.future e cargo c.self.invariant c.frames.ensures.value c.are_kept.ensures.rising c.frames.ensures.books c.in-Some.ensures.seen c.in-Some.ensures.cargo.0 in
+    let moves : c.unhold_all.new.objects ≡ moved old e cargo left x = c.unhold_all.ensures ∙ ap (λ reach. with_holds c.end_flight.new.objects (held_less reach c.end_flight.new.objects.stored.holds)) c.as_slice.ensures.value
+    ∙ ap (λ (o : Objects). with_holds o (held_less cargo.kept.reach.items o.stored.holds)) (c.end_flight.ensures (next_place (after old.history))) in
+    λ stands. noted_stands old (record { objects = c.bury.new.objects; flights = c.bury.new.flights; worlds = c.bury.new.worlds; history = c.push_reserved.new.self.items; room = vec_capacity c.push_reserved.new.self; builds = c.self.inside.builds }) e cargo left x
+          (subst CountsItsObjects (c.store.ensures ∙ ap (λ (o : Objects). o.stored) moves) c.counts_its_objects.ensures)
+          (subst CountsItsObjects c.store-2.ensures c.counts_its_objects-2.ensures)
+          (subst (λ (o : Objects). IsLeft o.stored c.bury.new.objects.stored) moves c.bury.ensures.left)
+          (c.bury.ensures.state ∙ ap (λ (o : Objects). buried o.stored) moves)
+          (c.bury.ensures.departed ∙ ap (λ (o : Objects). keys_of (gone o.stored.state c.bury.new.objects.stored.state)) moves)
+          (c.push_reserved.ensures.items ∙ ap (λ n. old.history ++ n ∷ []) c.note_of.ensures)
+          (ap (λ (b : Books Load). b.future.flights) c.bury.ensures.flights ∙ (fewer_kept c.next_ended.new.self.future c.bury.new.objects.departed).0)
+          (ap (λ (b : Books Load). b.cargo) c.bury.ensures.flights ∙ c.in-Some.ensures.cargo.1)
+          c.bury.ensures.forgotten c.bury.ensures.known refl c.push_reserved.ensures.capacity
+          c.args.after c.next_ended.new.self.future c.in-Some.ensures.seen (ap (λ (b : Books Load). b.future) c.bury.ensures.flights) (subst IsStanding (sym c.self.view_is) stands)
+
+pub returns-in-None-clause-stands : goal.returns-in-None-clause-stands
+returns-in-None-clause-stands c =
+    λ stands. looked_stands c.self.inside.journal.items c.args.after c.self.inside.flights.future c.next_ended.new.self.future c.in-None.ensures.seen (subst IsStanding (sym c.self.view_is) stands)

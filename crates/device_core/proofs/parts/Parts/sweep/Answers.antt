@@ -10,7 +10,6 @@ use Rattle.seq_model.specs.Told.{told}
 use Rattle.device_core.specs.AllParts.{Inside}
 use Rattle.device_core.specs.Notes.{HasNoted}
 use Rattle.device_core.specs.Standing.{IsStanding}
-use Rattle.device_core.specs.Deaths.{all_told}
 use Rattle.device_core.proofs.SweepFacts.{IsSweeping, noted_tells, sweeping_begins, sweeping_fewer, sweeping_on, sweeping_over}
 use Rattle.device_core.proofs.parts.Parts.sweep.Goals as goal
 
@@ -46,11 +45,8 @@ loop-ticket-preserved g c =
       (λ first is. c.tell.ensures.told ∙ ap (λ ns. ns ++ filter_map notice_of mid.objects.dead) (before.2 first is) ∙ append_assoc first (told now.history) (filter_map notice_of mid.objects.dead)
           ∙ ap (λ ns. first ++ ns) (noted_tells now mid c.loop-ticket.last c.in-Some.ticket noted ∙ ap (λ (i : Inside). told i.history) (sym c.tell.ensures.none))),
       omega (arith, so_far, room, told_now),
-      (λ stands. subst IsStanding (sym c.tell.ensures.none) (tell_stands mid (c.note_next.ensures.stands (before.4 stands)))),
+      (λ stands. subst IsStanding (sym c.tell.ensures.none) (c.note_next.ensures.stands (before.4 stands))),
     )
-  where
-    tell_stands : (i : Inside) → IsStanding i → IsStanding (all_told i)
-    tell_stands i s = record { open_ = s.open_; stands = s.stands; shows = s.shows; lent = s.lent; }
 
 pub returns-clause-swept : goal.returns-clause-swept
 returns-clause-swept g c = sweeping_over c.args.self.now c.loop-ticket.self c.note_next.new.self c.loop-ticket.last c.loop-ticket.invariant.0 c.in_default.ensures.noted
