@@ -1,4 +1,5 @@
 pub mod BurialFacts
+pub mod CallFacts
 pub mod ChangeFacts
 pub mod FlightFacts
 pub mod FlightSteps
@@ -7,6 +8,7 @@ pub mod FrameFacts
 pub mod FramesStandFacts
 pub mod FutureFacts
 pub mod LentFacts
+pub mod LoanFacts
 pub mod LoanSteps
 pub mod NoteFacts
 pub mod PhaseFacts
