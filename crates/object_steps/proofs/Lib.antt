@@ -1,3 +1,4 @@
+pub mod Applied
 pub mod Carried
 pub mod CarryFacts
 pub mod Counts

@@ -97,7 +97,7 @@ none_more : (n : ℕ) → n ≡ n + 0
 none_more n = omega arith
 
 -- the call makes one object more, or none
-effect_length : (place : ℕ) (call : Call) (r : Reply) (s : Stored) → CanCarry s call r → length (effect place call r s.state).objects ≡ length s.state.objects + one_if (is_birth call r)
+pub effect_length : (place : ℕ) (call : Call) (r : Reply) (s : Stored) → CanCarry s call r → length (effect place call r s.state).objects ≡ length s.state.objects + one_if (is_birth call r)
 unfolding effect unmap_parameter
 effect_length place (NewObject t subtype) (reply.Made made) s can = made_length s.state (kind_of t subtype) can.1
 effect_length place (NewArray elem count stride origin bytes) (reply.Made made) s can = new_length (fresh_array elem count stride origin bytes) s.state

@@ -6,6 +6,7 @@
 // a history led to.
 #![tactic(auto)]
 
+mod apply;
 pub mod array_loans;
 pub mod at_rest;
 pub mod carry_laws;
