@@ -1,21 +1,15 @@
 -- A call on objects leads from a store at rest to a store at rest.
 use Rattle.std.proofs.Common.{ℕ, ◌+◌, ◌≡◌, ◌<◌, ◌≤◌, ◌^◌, ◌∙◌, not, Bool, true, false, List, [], ◌∷◌, Option, Some, None, length, refl, sym, ap, subst, arith}
-use Rattle.std.specs.Prelude.{cond}
-use Rattle.std.specs.List.{cons_option, filter, filter_map}
 use Rattle.std.specs.Option.{IsSome, MatchOption, is_some, option_map, option_to_list}
 use Rattle.dev_types.specs.Refusals.{status_of}
+use Rattle.dev_types.specs.declared.handles.Origin.TheVariants.{Captured, Managed, Shared}
 use Rattle.dev_types.specs.declared.notices.Notice.{Notice}
 use Rattle.dev_types.specs.declared.notices.Notice.TheVariants.{Told}
-use Rattle.handle_table.specs.HandleMaps.{RiseWithin}
 use Rattle.answered_calls.proofs.Cleaned.{entered_is_sound}
 use Rattle.answered_calls.proofs.SeenTiles.{HasTiles, may_be_given}
 use Rattle.call_answers.specs.Plain.{ShowsNoPicture}
-use Rattle.object_store.specs.Gathers.{IsLeft}
 use Rattle.object_store.specs.Kept.{CountsItsObjects, Stored}
-use Rattle.object_store.specs.Parts.{at}
-use Rattle.object_store.proofs.DeadSteps.{has_key}
 use Rattle.past_laws.specs.Open.{IsOpen}
-use Rattle.past_laws.proofs.Answering.{answered_now}
 use Rattle.past_laws.proofs.Follows.{one_call_more}
 use Rattle.past_laws.proofs.OpenFacts.{follow_more}
 use Rattle.seq_model.specs.Answers.{answer}
@@ -24,24 +18,23 @@ use Rattle.seq_model.specs.Endings.{waited_flight}
 use Rattle.seq_model.specs.Extensions.{readings_of}
 use Rattle.seq_model.specs.Histories.{History}
 use Rattle.seq_model.specs.Legal.{IsNoLess, Legal, is_content_sound, reading}
-use Rattle.seq_model.specs.State.{Object}
 use Rattle.seq_model.specs.Steps.{Past, after, step}
-use Rattle.seq_model.specs.Told.{end_of_object, gone, source_of, status_at}
+use Rattle.seq_model.specs.Told.{source_of, status_at}
 use Rattle.seq_model.specs.declared.calls.Call.{Call}
-use Rattle.seq_model.specs.declared.calls.Call.TheVariants.{UnmapArray, UnmapParameterArray, RenderFrame, FrameReady, DiscardFrame, MapFrame, UnmapFrame}
+use Rattle.seq_model.specs.declared.calls.Call.TheVariants.{NewArray, UnmapArray, UnmapParameterArray, RenderFrame, FrameReady, DiscardFrame, MapFrame, UnmapFrame}
 use Rattle.seq_model.specs.declared.calls.Entry.TheVariants.{Called}
 use Rattle.seq_model.specs.declared.calls.Reply.{Reply}
 use Rattle.seq_model.specs.declared.calls.Reply.TheVariants as reply
 use Rattle.seq_model.proofs.Afters.{after_more}
-use Rattle.object_steps.specs.Applying.{is_object_call, tellable, with_call}
+use Rattle.object_steps.specs.Applying.{is_object_call, with_call}
 use Rattle.object_steps.specs.Carrying.{Brings, CanCarry, GivesBack, carried}
-use Rattle.object_steps.specs.Objects.{Objects, is_birth, one_if}
+use Rattle.object_steps.specs.Objects.{Objects, one_if, takes_memory, tellable}
 use Rattle.object_steps.specs.Resting.{Follows, HasRoom, IsAtRest, IsOfObjects, past_of}
 use Rattle.object_steps.specs.declared.array_loans.ArrayLoan.{ArrayLoan}
 use Rattle.object_steps.proofs.Carried.{can_carry}
 use Rattle.object_steps.proofs.Given.{gives_back}
-use Rattle.object_steps.proofs.Places.{effect_length, most_collected}
 use Rattle.object_steps.proofs.Rested.{follows as followed}
+use Rattle.object_steps.proofs.Tellables.{effect_tellable}
 use Rattle.object_steps.proofs.Standings.{led}
 
 -- room that was made changes nothing else
@@ -50,18 +43,18 @@ rests_with_room old now history rest same =
     subst (λ (o : Objects). IsAtRest o.stored history) (sym same) (record { legal = rest.legal; state = rest.state; public = rest.public; holds = rest.holds })
 
 -- what calls on objects are not
-pub of_objects : (call : Call) → is_object_call call ≡ true → IsOfObjects call
-of_objects (RenderFrame h) is = absurd cc
-of_objects (DiscardFrame h) is = absurd cc
-of_objects (MapFrame h channel) is = absurd cc
-of_objects (UnmapFrame h number) is = absurd cc
-of_objects _ is = tt
+pub of_objects : (call : Call) (r : Reply) → is_object_call call ≡ true → IsOfObjects call r
+of_objects (RenderFrame h) reply.Done is = absurd cc
+of_objects (DiscardFrame h) reply.Done is = absurd cc
+of_objects (MapFrame h channel) (reply.Mapped width height t rows) is = absurd cc
+of_objects (UnmapFrame h number) reply.Done is = absurd cc
+of_objects _ r is = tt
 
 pub shows_no_picture : (call : Call) → is_object_call call ≡ true → ShowsNoPicture call
 shows_no_picture (MapFrame h channel) is = absurd cc
 shows_no_picture _ is = tt
 
-waits_for_none : (past : Past) (call : Call) → is_object_call call ≡ true → waited_flight past call ≡ None
+pub waits_for_none : (past : Past) (call : Call) → is_object_call call ≡ true → waited_flight past call ≡ None
 waits_for_none past (FrameReady h wait) is = absurd cc
 waits_for_none past _ is = refl
 
@@ -91,9 +84,6 @@ stays_roomy s past (UnmapArray h number bytes) room = tt
 stays_roomy s past (UnmapParameterArray h name number bytes) room = room
 stays_roomy s past _ room = room
 
-pub is_answered : (past : Past) (call : Call) → is_object_call call ≡ true → IsSome (answer past call)
-is_answered past call is = answered_now past call (waits_for_none past call is)
-
 pub entry_is_object : (past : Past) (call entry : Call) → entry ≡ entered past call → is_object_call call ≡ true → is_object_call entry ≡ true
 entry_is_object past call entry is object = subst (λ c. is_object_call c ≡ true) (sym is) (stays_object past call object)
 
@@ -114,14 +104,14 @@ module _ (s : Stored) (history : History) (rest : IsAtRest s history) (open_ : I
 
   pub can_be_carried : length history < 2 ^ 63 → HasRoom s call → CanCarry s entry r
   can_be_carried short room =
-      can_carry s history rest entry r short (subst (HasRoom s) (sym is) (stays_roomy s (after history) call room)) (of_objects entry entry_object) answered sound
+      can_carry s history rest entry r short (subst (HasRoom s) (sym is) (stays_roomy s (after history) call room)) (of_objects entry r entry_object) answered sound
 
   pub loan_comes_back : (with : ArrayLoan) → Brings call with → GivesBack entry r with
   loan_comes_back with brings =
       subst (λ c. GivesBack c r with) (sym is) (gives_back history call r with brings (subst (λ c. answer (after history) c ≡ Some r) is answered))
 
   pub leads_on : CountsItsObjects s → length history < 2 ^ 63 → HasRoom s call → (actor : ℕ) → Follows (carried (length history + 1) entry r s) history (Called actor entry r)
-  leads_on counts short room actor = followed s history actor entry r rest counts (of_objects entry entry_object) (can_be_carried short room) (legal actor)
+  leads_on counts short room actor = followed s history actor entry r rest counts (of_objects entry r entry_object) (can_be_carried short room) (legal actor)
 
 -- a store at rest after one more entry stands where that entry leads
 pub stepped : (s : Stored) (history : History) (actor : ℕ) (call : Call) (r : Reply) → IsAtRest s (with_call history actor call r) →
@@ -140,49 +130,14 @@ pub one_status : (actor : ℕ) (call : Call) (r : Reply) → length (status_at (
 one_status actor call (reply.Denied refused) = one_of (option_map Told (status_of refused (source_of call)))
 one_status actor call _ = omega arith
 
-few_entries : {X : Type 0} (low high : ℕ) (es : List (ℕ × X)) → RiseWithin low high es → length es + low ≤ high
-few_entries low high [] up = omega (arith, up)
-few_entries low high (e ∷ es) up = omega (arith, up.0, few_entries (e.0 + 1) high es up.1)
+-- a call is refused, or makes an array whose end is to be told, or neither
+once_told : (call : Call) (r : Reply) → length (status_at (Called 0 call r)) + one_if (takes_memory call r) ≤ 1
+once_told (NewArray elem count stride (Captured user) bytes) (reply.Made made) = omega arith
+once_told (NewArray elem count stride (Shared user) bytes) (reply.Made made) = omega arith
+once_told (NewArray elem count stride Managed bytes) (reply.Made made) = omega arith
+once_told (NewArray elem count stride origin bytes) (reply.Denied refused) = omega (arith, one_status 0 (NewArray elem count stride origin bytes) (reply.Denied refused))
+once_told call r = omega (arith, one_status 0 call r)
 
-one_at_most : (b : Bool) → one_if b ≤ 1
-one_at_most true = omega arith
-one_at_most false = omega arith
-
-pub few_told : (place : ℕ) (call : Call) (r : Reply) (s : Stored) → CountsItsObjects s → CanCarry s call r →
-    length (status_at (Called 0 call r)) + tellable (carried place call r s).state ≤ s.state.next + 1
-few_told place call r s counts can =
-    omega (
-      arith,
-      one_status 0 call r,
-      most_collected end_of_object (carried place call r s).state.objects,
-      effect_length place call r s can,
-      one_at_most (is_birth call r),
-      few_entries 1 s.state.next s.state.objects counts.rising,
-    )
-
--- who is told is gone, and who is left can be told
-collected_parts : {X Y : Type 0} (f : X → Option Y) (p : X → Bool) (xs : List X) →
-    length (filter_map f (filter p xs)) + length (filter_map f (filter (λ x. not (p x)) xs)) ≡ length (filter_map f xs)
-collected_parts f p [] = refl
-collected_parts {X} {Y} f p (x ∷ xs) = by (p x) (f x) refl (collected_parts f p xs)
-  where
-    by : (t : Bool) (y : Option Y) → f x ≡ y → length (filter_map f (filter p xs)) + length (filter_map f (filter (λ x. not (p x)) xs)) ≡ length (filter_map f xs) →
-        length (filter_map f (cond t (x ∷ filter p xs) (filter p xs))) + length (filter_map f (cond (not t) (x ∷ filter (λ x. not (p x)) xs) (filter (λ x. not (p x)) xs)))
-        ≡ length (cons_option y (filter_map f xs))
-    by true None is rest = ap (λ z. length (cons_option z (filter_map f (filter p xs))) + length (filter_map f (filter (λ x. not (p x)) xs))) is ∙ rest
-    by true (Some y) is rest =
-        ap (λ z. length (cons_option z (filter_map f (filter p xs))) + length (filter_map f (filter (λ x. not (p x)) xs))) is ∙ (omega (arith, rest))
-    by false None is rest = ap (λ z. length (filter_map f (filter p xs)) + length (cons_option z (filter_map f (filter (λ x. not (p x)) xs)))) is ∙ rest
-    by false (Some y) is rest =
-        ap (λ z. length (filter_map f (filter p xs)) + length (cons_option z (filter_map f (filter (λ x. not (p x)) xs)))) is ∙ (omega (arith, rest))
-
-pub told_and_left : (old now : Stored) → IsLeft old now → tellable now.state + length (filter_map end_of_object (gone old.state now.state)) ≡ tellable old.state
-told_and_left old now left =
-    let same : gone old.state now.state ≡ filter (λ (e : ℕ × Object). not (is_some (at e.0 now.state.objects))) old.state.objects =
-    ap (λ (p : ℕ × Object → Bool). filter p old.state.objects) (λ i e. not (has_key e.0 now.state.objects i)) in
-    omega (
-      arith,
-      ap (λ es. length (filter_map end_of_object es)) left.kept,
-      ap (λ es. length (filter_map end_of_object es)) same,
-      collected_parts end_of_object (λ (e : ℕ × Object). is_some (at e.0 now.state.objects)) old.state.objects,
-    )
+pub few_told : (place : ℕ) (call : Call) (r : Reply) (s : Stored) → CanCarry s call r →
+    length (status_at (Called 0 call r)) + tellable (carried place call r s).state ≤ tellable s.state + 1
+few_told place call r s can = omega (arith, once_told call r, effect_tellable place call r s can)

@@ -1,9 +1,6 @@
 -- A call that is made on objects, and what it leaves.
-use Rattle.std.specs.Prelude.{ℕ, Bool, true, false, [], ◌∷◌, ◌++◌, length}
-use Rattle.std.specs.List.{filter_map}
+use Rattle.std.specs.Prelude.{ℕ, Bool, true, false, [], ◌∷◌, ◌++◌}
 use Rattle.seq_model.specs.Histories.{History}
-use Rattle.seq_model.specs.State.{State}
-use Rattle.seq_model.specs.Told.{end_of_object}
 use Rattle.seq_model.specs.declared.calls.Call.{Call}
 use Rattle.seq_model.specs.declared.calls.Call.TheVariants.{RenderFrame, FrameReady, DiscardFrame, MapFrame, UnmapFrame, GetProperty, Subtypes, ObjectInfo, ParameterInfo}
 use Rattle.seq_model.specs.declared.calls.Entry.TheVariants.{Called}
@@ -21,10 +18,6 @@ is_object_call (Subtypes t) = false
 is_object_call (ObjectInfo t subtype) = false
 is_object_call (ParameterInfo t subtype name) = false
 is_object_call call = true
-
--- how many arrays of a state have memory that the application gave, so that their ends are to be told
-abbrev pub tellable : State → ℕ
-tellable s = length (filter_map end_of_object s.objects)
 
 -- a history with one call more
 abbrev pub with_call : History → ℕ → Call → Reply → History

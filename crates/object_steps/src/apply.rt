@@ -1,25 +1,22 @@
 //! Calls on objects: each is refused or carried out, and the client is told of it.
-ghost use Rattle.std.specs.Prelude.{◌≡◌, ℕ, ◌+◌, ◌<◌, ◌≤◌, ◌^◌, ◌++◌, IfErr, IfOk, OnErr, OnOk, Some, length, true};
-ghost use Rattle.std.specs.Option.{unwrap_or};
+ghost use Rattle.std.specs.Prelude.{◌≡◌, [], ℕ, ◌+◌, ◌<◌, ◌≤◌, ◌^◌, ◌++◌, IfErr, IfOk, OnErr, OnOk, Some, length, true};
 ghost use Rattle.past_laws.specs.Open.{IsOpen};
 ghost use Rattle.seq_model.specs.Answers.{answer};
 ghost use Rattle.seq_model.specs.Contents.{entered};
 ghost use Rattle.seq_model.specs.Steps.{after, step};
 ghost use Rattle.seq_model.specs.Told.{status_at, told_by};
 ghost use Rattle.seq_model.specs.declared.calls.Entry.TheVariants.{Called};
-ghost use Rattle.object_steps.specs.Applying.{is_object_call, tellable, with_call};
+ghost use Rattle.object_steps.specs.Applying.{is_object_call, with_call};
 ghost use Rattle.object_steps.specs.Carrying.{Brings, handed};
+ghost use Rattle.object_steps.specs.Objects.{tellable};
 ghost use Rattle.object_steps.specs.Resting.{Follows, HasRoom, IsAtRest, past_of};
 
 use crate::array_loans::ArrayLoan;
-use crate::at_rest::{AtRest, Records};
+use crate::at_rest::Records;
+use crate::deciding::{Decided, decide, entry_of};
 use crate::objects::ObjectStore;
 use answered_calls::tell_status;
-use call_answers::Standing;
-use call_answers::contents::entered;
-use call_answers::replies::answer;
 use dev_types::{Client, NoMemory};
-use object_store::store::Store;
 use seq_model::{Call, Reply};
 use std::alloc::Global;
 
@@ -45,6 +42,7 @@ impl ObjectStore {
         requires short { length (R.history records.now) < 2 ^ 63 }
         requires object_call { is_object_call call ≡ true }
         requires brings { Brings call with }
+        requires none { self.old.dead ≡ [] }
         requires spare { tellable self.old.stored.state ≤ C.spare client.old }
         ensures entered { IfOk result (λ r. r.0 ≡ entered (after (R.history records.now)) call) }
         ensures answered { IfOk result (λ r. answer (after (R.history records.now)) r.0 ≡ Some r.1) }
@@ -62,6 +60,7 @@ impl ObjectStore {
             ++ told_by (after (R.history records.now)) (Called actor r.0 r.1)) }
         ensures handed { IfOk result (λ r. r.2 ≡ handed (length (R.history records.now) + 1) r.0 r.1
             self.old.stored.state with) }
+        ensures none { self.new.dead ≡ [] }
         ensures returned { IfErr result (λ e. (e.1 ≡ call) × (e.2 ≡ with)) }
         ensures err { OnErr result (self.new ≡ record self.old {
           stored = record self.old.stored { ready = self.new.stored.ready };
@@ -98,20 +97,20 @@ impl ObjectStore {
         call: &Call,
     ) -> Result<(), NoMemory>
         ensures ready { OnOk result (HasRoom self.new.stored call.now) }
-        ensures room { OnOk result (self.old.stored.state.next + 1 ≤ C.spare client.new) }
+        ensures room { OnOk result (tellable self.old.stored.state + 1 ≤ C.spare client.new) }
         ensures same { self.new ≡ record self.old {
           stored = record self.old.stored { ready = self.new.stored.ready };
         } }
         ensures quiet { C.notices client.new ≡ C.notices client.old }
         ensures no_less { C.spare client.old ≤ C.spare client.new }
     {
-        let most = u32::try_from(self.store().next().0)
+        let notices = u32::try_from(self.tellable())
             .ok()
-            .and_then(|next| next.checked_add(1));
-        let Some(most) = most else {
+            .and_then(|tellable| tellable.checked_add(1));
+        let Some(notices) = notices else {
             return Err(NoMemory);
         };
-        client.reserve(alloc, most)?;
+        client.reserve(alloc, notices)?;
         match call {
             Call::NewObject { .. } | Call::NewArray { .. } | Call::UnmapParameterArray { .. } => {
                 self.make_room(alloc)
@@ -133,6 +132,8 @@ impl ObjectStore {
         requires told { length (status_at (Called 0 call.now reply.now)) + tellable
             self.old.stored.state ≤ C.spare client.old }
         requires some { 0 < C.spare client.old }
+        requires none { self.old.dead ≡ [] }
+        ensures none { self.new.dead ≡ [] }
         ensures rests { (actor : ℕ)
             → IsAtRest self.new.stored (with_call (R.history records.now) actor call.now reply.now) }
         ensures told { (actor : ℕ)
@@ -146,74 +147,5 @@ impl ObjectStore {
         tell_status(client, call, reply);
         self.bury(client);
         self.store().counts_its_objects();
-    }
-}
-
-/// A call as it is entered, if that differs from the call as it was made, and its reply.
-#[derive(Drop)]
-struct Decided {
-    cleaned: Option<Call>,
-    reply: Reply,
-}
-
-/// The call as it is entered, if it brings something back; the call that was made stays.
-#[tactic(auto, unfolding(seq_model::specs::Contents::entered))]
-fn cleaned<S: Standing>(device: &S, alloc: Global, call: &Call) -> Result<Option<Call>, NoMemory>
-    ensures { IfOk result (λ made. unwrap_or made call.now ≡ entered (S.past device.now) call.now) }
-{
-    let brought = match call {
-        Call::UnmapArray { h, number, bytes } => Call::UnmapArray {
-            h: *h,
-            number: *number,
-            bytes: bytes.share(alloc)?,
-        },
-        Call::UnmapParameterArray {
-            h,
-            name,
-            number,
-            bytes,
-        } => Call::UnmapParameterArray {
-            h: *h,
-            name: name.copied(),
-            number: *number,
-            bytes: bytes.share(alloc)?,
-        },
-        _ => return Ok(None),
-    };
-    match entered(device, alloc, brought) {
-        Ok(made) => Ok(Some(made)),
-        Err(_) => Err(NoMemory),
-    }
-}
-
-/// What a call on objects is answered, and how it is entered.
-fn decide<R: Records>(
-    store: &Store,
-    alloc: Global,
-    records: &R,
-    call: &Call,
-) -> Result<Decided, NoMemory>
-    requires rests { IsAtRest store.now (R.history records.now) }
-    requires may_follow { IsOpen (R.history records.now) }
-    requires object_call { is_object_call call.now ≡ true }
-    ensures entered { IfOk result (λ d. unwrap_or d.cleaned call.now ≡ entered (after (R.history
-        records.now)) call.now) }
-    ensures answered { IfOk result (λ d. answer (after (R.history records.now)) (unwrap_or d.cleaned
-        call.now) ≡ Some d.reply) }
-{
-    let device = AtRest::new(store, records);
-    device.is_legal();
-    let cleaned = cleaned(&device, alloc, call)?;
-    let reply = answer(&device, alloc, entry_of(&cleaned, call))?;
-    Ok(Decided { cleaned, reply })
-}
-
-/// The call as it is entered.
-fn entry_of<'a>(cleaned: &'a Option<Call>, call: &'a Call) -> &'a Call
-    ensures { result.now ≡ unwrap_or cleaned.now call.now }
-{
-    match cleaned {
-        Some(cleaned) => cleaned,
-        None => call,
     }
 }

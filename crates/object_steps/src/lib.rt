@@ -11,6 +11,7 @@ pub mod array_loans;
 pub mod at_rest;
 pub mod carry_laws;
 pub mod changes;
+pub mod deciding;
 mod frames;
 pub mod lent_params;
 pub mod objects;

@@ -4,11 +4,11 @@ use Rattle.seq_model.specs.Answers.{answer}
 use Rattle.seq_model.specs.Steps.{after}
 use Rattle.seq_model.specs.Told.{status_at}
 use Rattle.seq_model.specs.declared.calls.Entry.TheVariants.{Called}
-use Rattle.object_steps.specs.Applying.{tellable, with_call}
+use Rattle.object_steps.specs.Applying.{with_call}
 use Rattle.object_steps.specs.Carrying.{carried}
-use Rattle.object_steps.specs.Objects.{Objects}
+use Rattle.object_steps.specs.Objects.{Objects, tellable}
 use Rattle.object_steps.specs.Resting.{Follows, IsAtRest}
-use Rattle.object_steps.proofs.Applied.{can_be_carried, few_told, leads_on, loan_comes_back, rests_with_room, stays_open, stepped}
+use Rattle.object_steps.proofs.Applied.{can_be_carried, few_told, leads_on, loan_comes_back, rests_with_room, shows_no_picture, stays_open, stepped, waits_for_none}
 use Rattle.object_steps.proofs.objects.ObjectStore.apply.Goals as goal
 
 pub carry_out-requires-clause-can : goal.carry_out-requires-clause-can
@@ -36,12 +36,18 @@ end_call-requires-clause-follows g c = λ actor.
 pub end_call-requires-clause-told : goal.end_call-requires-clause-told
 end_call-requires-clause-told g c =
     let few : length (status_at (Called 0 c.entry_of-entry.result.now c.in-Ok-decide.decided.reply))
-    + tellable (carried c.place-place.result c.entry_of-entry.result.now c.in-Ok-decide.decided.reply c.prepare.new.self.stored).state ≤ c.prepare.new.self.stored.state.next + 1 =
-    few_told c.place-place.result c.entry_of-entry.result.now c.in-Ok-decide.decided.reply c.prepare.new.self.stored (subst CountsItsObjects c.store-2.ensures c.counts_its_objects.ensures)
+    + tellable (carried c.place-place.result c.entry_of-entry.result.now c.in-Ok-decide.decided.reply c.prepare.new.self.stored).state ≤ tellable c.prepare.new.self.stored.state + 1 =
+    few_told c.place-place.result c.entry_of-entry.result.now c.in-Ok-decide.decided.reply c.prepare.new.self.stored
     (can_be_carried c.prepare.new.self.stored (g.R.Records.history c.args.records.now) (rests_with_room c.args.self.now c.prepare.new.self (g.R.Records.history c.args.records.now) c.requires.rests c.prepare.ensures.same) c.requires.may_follow c.args.call c.entry_of-entry.result.now c.in-Ok-decide.decided.reply
     c.requires.object_call (c.entry_of-entry.ensures ∙ c.in-Ok-decide.ensures.entered)
     (ap (answer (after (g.R.Records.history c.args.records.now))) c.entry_of-entry.ensures ∙ c.in-Ok-decide.ensures.answered) c.requires.short c.in-Ok.ensures.ready) in
-    omega (arith, few, ap (λ (o : Objects). tellable o.stored.state) c.in-Ok-carry_out.ensures.ok, ap (λ (o : Objects). o.stored.state.next) c.prepare.ensures.same, c.in-Ok.ensures.room)
+    omega (arith, few, ap (λ (o : Objects). tellable o.stored.state) c.in-Ok-carry_out.ensures.ok, ap (λ (o : Objects). tellable o.stored.state) c.prepare.ensures.same, c.in-Ok.ensures.room)
+
+pub decide-requires-clause-pictureless : goal.decide-requires-clause-pictureless
+decide-requires-clause-pictureless g c = shows_no_picture c.args.call c.requires.object_call
+
+pub decide-requires-clause-waits_for_none : goal.decide-requires-clause-waits_for_none
+decide-requires-clause-waits_for_none g c = waits_for_none (after (g.R.Records.history c.args.records.now)) c.args.call c.requires.object_call
 
 pub returns-clause-step : goal.returns-clause-step
 returns-clause-step g c = λ actor.

@@ -3,7 +3,7 @@ use Rattle.std.specs.List.{filter_map}
 use Rattle.object_store.specs.Kept.{CountsItsObjects}
 use Rattle.seq_model.specs.Told.{end_of_object, gone, status_at}
 use Rattle.seq_model.specs.declared.calls.Entry.TheVariants.{Called}
-use Rattle.object_steps.proofs.Applied.{told_and_left}
+use Rattle.object_steps.proofs.Tellables.{fewer_told}
 use Rattle.object_steps.proofs.Rested.{ends_told, ranked, rests}
 use Rattle.object_steps.proofs.objects.ObjectStore.end_call.Goals as goal
 
@@ -28,7 +28,7 @@ returns-clause-told g c = λ actor.
 
 pub returns-clause-spare : goal.returns-clause-spare
 returns-clause-spare g c =
-    omega (arith, told_and_left c.args.self.now.stored c.bury.new.self.stored c.bury.ensures.left, c.bury.ensures.room, c.tell_status.ensures.used, c.requires.told)
+    omega (arith, fewer_told c.args.self.now.stored c.bury.new.self.stored c.bury.ensures.left, c.bury.ensures.room, c.tell_status.ensures.used, c.requires.told)
 
 pub returns-clause-room : goal.returns-clause-room
 returns-clause-room g c =
