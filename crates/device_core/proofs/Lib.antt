@@ -8,6 +8,7 @@ pub mod KeptFacts
 pub mod LookFacts
 pub mod NotedFacts
 pub mod OnceFacts
+pub mod RecordFacts
 pub mod SeenFacts
 pub mod ShownFacts
 pub mod SweepFacts

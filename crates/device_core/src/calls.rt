@@ -10,12 +10,12 @@ ghost use Rattle.seq_model.specs.Legal.{Legal};
 ghost use Rattle.seq_model.specs.declared.calls.Entry.TheVariants.{Called};
 ghost use Rattle.world_laws.specs.Alike.{Shown as ShownWorld};
 ghost use Rattle.device_laws.specs.FramesStand.{without_pictures};
-ghost use Rattle.device_core.specs.Calls.{HasEntered};
+ghost use Rattle.device_core.specs.Calls.{HasEntered, touched_by};
 ghost use Rattle.device_core.specs.Standing.{IsStanding};
 
 use crate::burials::bury;
 use crate::parts::Parts;
-use dev_types::NoMemory;
+use dev_types::{Handle, NoMemory};
 use kept_worlds::KeptWorlds;
 use object_steps::ArrayLoan;
 use seq_model::{Call, Entry, Reply};
@@ -78,8 +78,17 @@ fn touch<P: Drop>(worlds: &mut KeptWorlds<P>, call: &Call, reply: &Reply)
         → AreShown history (shown_at shows worlds.old)
         → AreShown history (shown_at shows worlds.new) }
 {
+    if let Some(h) = touched_by(call, reply) {
+        worlds.touch(h);
+    }
+}
+
+/// The object that a call touches by its reply, so that worlds that reached it show something else.
+fn touched_by(call: &Call, reply: &Reply) -> Option<Handle>
+    ensures { result ≡ touched_by call.now reply.now }
+{
     match (call, reply) {
-        (Call::Commit { h } | Call::UnmapArray { h, .. }, Reply::Done) => worlds.touch(*h),
-        _ => {}
+        (Call::Commit { h } | Call::UnmapArray { h, .. }, Reply::Done) => Some(*h),
+        _ => None,
     }
 }
