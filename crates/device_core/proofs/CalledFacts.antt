@@ -140,5 +140,5 @@ module _ (old : Inside) (actor : ℕ) (call : Call) (r : Reply) (p : AreParts ol
       fewer = (let parts = fewer_told moved new.objects.stored is_left in let dead = ap length notices in
           let more = effect_tellable (length old.history + 1) call r old.objects.stored can in
           omega (arith, parts, dead, more));
-      room = room;
+      room = (let same_room = room in omega (arith, same_room));
     }
