@@ -11,6 +11,7 @@ pub mod LentFacts
 pub mod LoanFacts
 pub mod LoanSteps
 pub mod NoteFacts
+pub mod OverFacts
 pub mod PhaseFacts
 pub mod ReachFacts
 pub mod RenderFacts

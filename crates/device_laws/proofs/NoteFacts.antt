@@ -38,7 +38,7 @@ record IsWithout (runs left : List Run) (r : Run) : Type 0 where
   there : runs ≡ before ++ r ∷ behind
   rest : left ≡ before ++ behind
 
-abbrev first_of : Flying → List Flying → Flying
+abbrev pub first_of : Flying → List Flying → Flying
 first_of d [] = d
 first_of d (f ∷ fs) = f
 

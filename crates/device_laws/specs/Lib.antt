@@ -3,6 +3,7 @@ pub mod FlightMoves
 pub mod Flown
 pub mod FramesStand
 pub mod Lent
+pub mod Over
 pub mod Renders
 pub mod SameFrames
 pub mod Showings

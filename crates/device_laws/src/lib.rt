@@ -6,6 +6,7 @@ mod entry_laws;
 mod flight_laws;
 mod frame_laws;
 mod loan_laws;
+mod over_laws;
 mod render_laws;
 mod standing_laws;
 
@@ -20,6 +21,7 @@ pub use flight_laws::{
 };
 pub use frame_laws::{calls_on_kept_frames_leave_them, same_frames_stand_alike};
 pub use loan_laws::{kept_loans_are_those_of_the_history, mapped_frames_have_pictures};
+pub use over_laws::flights_that_are_gone_are_over;
 pub use render_laws::flights_show_their_renders;
 pub use standing_laws::{
     frames_stand_between_entries, frames_stand_on_by_a_call, frames_stand_on_by_a_loan,
