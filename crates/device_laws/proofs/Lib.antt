@@ -7,6 +7,7 @@ pub mod FlownFacts
 pub mod FrameFacts
 pub mod FramesStandFacts
 pub mod FutureFacts
+pub mod GrantFacts
 pub mod LentFacts
 pub mod LoanFacts
 pub mod LoanSteps

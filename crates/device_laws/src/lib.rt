@@ -5,6 +5,7 @@
 mod entry_laws;
 mod flight_laws;
 mod frame_laws;
+mod grant_laws;
 mod loan_laws;
 mod over_laws;
 mod render_laws;
@@ -20,6 +21,7 @@ pub use flight_laws::{
     nothing_is_kept_at_first, other_entries_keep_the_flights, renders_begin_a_flight,
 };
 pub use frame_laws::{calls_on_kept_frames_leave_them, same_frames_stand_alike};
+pub use grant_laws::kept_frames_grant_what_the_history_grants;
 pub use loan_laws::{kept_loans_are_those_of_the_history, mapped_frames_have_pictures};
 pub use over_laws::flights_that_are_gone_are_over;
 pub use render_laws::flights_show_their_renders;
