@@ -1,6 +1,7 @@
 pub mod BurialFacts
 pub mod CallFacts
 pub mod ChangeFacts
+pub mod DeadFacts
 pub mod FlightFacts
 pub mod FlightSteps
 pub mod FlownFacts

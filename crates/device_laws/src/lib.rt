@@ -12,8 +12,8 @@ mod render_laws;
 mod standing_laws;
 
 pub use entry_laws::{
-    burials_end_an_entry, burials_leave_what_lives, calls_change_the_objects, entries_move_flights,
-    entries_move_frames,
+    burials_end_an_entry, burials_leave_all_but_what_goes, burials_leave_what_lives,
+    calls_change_the_objects, entries_move_flights, entries_move_frames,
 };
 pub use flight_laws::{
     discards_stop_a_flight, flights_are_shown_by_their_frames, flights_hold_what_they_reached,
