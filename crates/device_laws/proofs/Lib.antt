@@ -5,6 +5,7 @@ pub mod DeadFacts
 pub mod FlightFacts
 pub mod FlightSteps
 pub mod FlownFacts
+pub mod FlyFacts
 pub mod FrameFacts
 pub mod FramesStandFacts
 pub mod FutureFacts

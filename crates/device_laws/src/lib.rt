@@ -4,6 +4,7 @@
 
 mod entry_laws;
 mod flight_laws;
+mod flown_laws;
 mod frame_laws;
 mod grant_laws;
 mod loan_laws;
@@ -20,6 +21,7 @@ pub use flight_laws::{
     kept_phases_are_those_of_the_history, maps_lend_a_channel, notes_end_a_flight,
     nothing_is_kept_at_first, other_entries_keep_the_flights, renders_begin_a_flight,
 };
+pub use flown_laws::kept_flights_are_those_of_the_history;
 pub use frame_laws::{calls_on_kept_frames_leave_them, same_frames_stand_alike};
 pub use grant_laws::kept_frames_grant_what_the_history_grants;
 pub use loan_laws::{kept_loans_are_those_of_the_history, mapped_frames_have_pictures};
