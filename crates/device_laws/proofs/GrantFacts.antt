@@ -1,5 +1,5 @@
 -- What a history grants of a frame, its kept frames grant.
-use Rattle.std.proofs.Common.{ℕ, ◌+◌, ◌==◌, ◌≡◌, ◌≤◌, ◌∙◌, ◌⊎◌, inl, inr, not, Bool, true, false, List, [], ◌∷◌, ◌++◌, Option, None, Some, length, refl, sym, ap, arith}
+use Rattle.std.proofs.Common.{ℕ, ◌+◌, ◌==◌, ◌≡◌, ◌<◌, ◌≤◌, ◌∙◌, ◌⊎◌, inl, inr, not, Bool, true, false, List, [], ◌∷◌, ◌++◌, Option, None, Some, length, refl, sym, ap, arith}
 use Rattle.std.specs.Prelude.{cond, count_by, nat_lt, ◌||◌}
 use Rattle.std.specs.List.{filter, find, list_any}
 use Rattle.std.specs.Option.{is_some, option_map, option_map_or}
@@ -10,8 +10,8 @@ use Rattle.dev_types.specs.declared.refusals.Refused.{Refused}
 use Rattle.dev_types.specs.declared.refusals.Refused.TheVariants.{ChannelMapped, NoChannel, NotMapped}
 use Rattle.frame_future.specs.Channels.{is_asked, loan_of}
 use Rattle.frame_future.specs.Flights.{Flying}
-use Rattle.frame_future.specs.Future.{Finished, Future, flight_of, is_mapped, is_picture_of, phase_by, phase_of, refusal_by, refusal_of_map, shown_by}
-use Rattle.seq_model.proofs.Afters.{after_more, seen_is_history}
+use Rattle.frame_future.specs.Future.{Finished, Future, IsLater, flight_of, is_mapped, is_picture_of, phase_by, phase_of, refusal_by, refusal_of_map, shown_by}
+use Rattle.seq_model.proofs.Afters.{after_more, frame_within, seen_is_history}
 use Rattle.seq_model.proofs.Channels.{channels_stand_once}
 use Rattle.seq_model.proofs.Granted.{AllNone, all_none, does_not_apply, given}
 use Rattle.seq_model.proofs.Prefixes.{in_place, legal_by, prefix_is_legal}
@@ -26,12 +26,14 @@ use Rattle.seq_model.specs.declared.calls.Entry.{Entry}
 use Rattle.seq_model.specs.declared.calls.Entry.TheVariants.{Called, Finished as FinishedAt, Left}
 use Rattle.seq_model.specs.declared.calls.Reply.TheVariants as reply
 use Rattle.device_laws.proofs.FlightFacts.{flight_is}
+use Rattle.device_laws.proofs.FlownFacts.{mapped, weaker}
 use Rattle.device_laws.proofs.FutureFacts.{count_next, found_counts}
 use Rattle.device_laws.proofs.LentFacts.{flights_map_nothing, mapped_over, mapped_shown, no_length, nothing_mapped}
-use Rattle.device_laws.proofs.StandingFacts.{found, phases_agree}
+use Rattle.device_laws.proofs.RenderFacts.{done_is_early}
+use Rattle.device_laws.proofs.StandingFacts.{flights_have_runs, found, phases_agree}
 use Rattle.device_laws.proofs.StandingSteps.{phase_over, phase_shown}
 use Rattle.device_laws.proofs.UnmapSteps.{itself}
-use Rattle.device_laws.specs.Flown.{Flown, runs_of}
+use Rattle.device_laws.specs.Flown.{Flown, IsRun, run_of, runs_of}
 use Rattle.device_laws.specs.FramesStand.{FramesStand}
 use Rattle.device_laws.specs.Lent.{IsLent, loan_in}
 use Rattle.device_laws.specs.Renders.{ShowsRender}
@@ -181,10 +183,24 @@ module _ (history : History) (s : Future) (flown : Flown history (runs_of s.flig
           let flies : phase_at (after history) f ≡ Flight g.ticket = agree ∙ ap (λ x. phase_as (phase_by x (shown_by s f))) is in
           let wrong : in_flight (after history) (Flight g.ticket) ≡ None = ap (in_flight (after history)) (sym flies) ∙ landed in absurd cc
 
-  pub render_starts : refusal (after history) (RenderFrame f) ≡ None → (flight_of s f ≡ None) × (is_mapped s f ≡ false)
+  -- all tickets are places
+  all_later : IsLater s (length history + 1)
+  all_later = record {
+    flights =
+        mapped (λ t. t < length history + 1) (λ f. f.ticket) s.flights
+        (weaker (λ g. IsRun history (run_of g)) (λ g. g.ticket < length history + 1) s.flights
+        (λ g run. (let early : g.ticket ≤ length history = (frame_within history g.ticket g.frame run.frame).1 in omega (arith, early)))
+        (flights_have_runs (IsRun history) s.flights flown.each));
+    pictures =
+        mapped (λ t. t < length history + 1) (λ p. p.ticket) s.pictures
+        (weaker (λ p. phase_at (after history) p.frame ≡ Done p.ticket) (λ p. p.ticket < length history + 1) s.pictures
+        (λ p is. (let early : p.ticket ≤ length history = done_is_early history p.frame p.ticket is in omega (arith, early))) stand.stands.shown);
+  }
+
+  pub render_starts : refusal (after history) (RenderFrame f) ≡ None → (flight_of s f ≡ None) × (is_mapped s f ≡ false) × IsLater s (length history + 1)
   render_starts none =
       let facts : (in_flight (after history) (phase_at (after history) f) ≡ None) × (mapped_at (after history) f ≡ []) = render_granted (after history) f none in
-      (none_flies facts.0, nothing_mapped history s f stand.lent facts.1)
+      (none_flies facts.0, nothing_mapped history s f stand.lent facts.1, all_later)
 
   -- the picture of a frame, and its loans
   picture_is : (p : Finished) → shown_by s f ≡ Some p → IsLent history p × (p.frame ≡ f)

@@ -1,12 +1,13 @@
 //! What a history grants of a frame, the kept frames grant: the law is the contract of a function
 //! that does nothing.
-ghost use Rattle.std.specs.Prelude.{◌≡◌, ◌⊎◌, [], ℕ, None, Some, false};
+ghost use Rattle.std.specs.Prelude.{◌≡◌, ◌⊎◌, ◌+◌, [], ℕ, None, Some, false, length};
 ghost use Rattle.std.specs.Option.{IsSome};
 ghost use Rattle.dev_types.specs.declared.handles.Channel.{Channel};
 ghost use Rattle.frame_future.specs.Channels.{loan_of};
 ghost use Rattle.frame_future.specs.Future.{
   Finished,
   Future,
+  IsLater,
   flight_of,
   is_mapped,
   refusal_of_map,
@@ -28,9 +29,9 @@ ghost use Rattle.device_laws.specs.FramesStand.{FramesStand};
 
 /// Where the history does not refuse a call on a frame, the kept frames do not either. A frame with
 /// a mapped channel is done. A frame that may be rendered has no flight and no mapped channel, and
-/// one that may be discarded has no mapped channel. A channel that may be mapped is one of a kept
-/// picture, not mapped and asked for. Where a loan may come back, it is that of a channel of the
-/// frame's picture.
+/// the ticket of the render is above all others; one that may be discarded has no mapped channel. A
+/// channel that may be mapped is one of a kept picture, not mapped and asked for. Where a loan may
+/// come back, it is that of a channel of the frame's picture.
 pub fn kept_frames_grant_what_the_history_grants()
     ensures done { (history : History) (h : ℕ)
         → Legal history
@@ -40,7 +41,8 @@ pub fn kept_frames_grant_what_the_history_grants()
         → FramesStand history future
         → (f : ℕ)
         → refusal (after history) (RenderFrame f) ≡ None
-        → (flight_of future f ≡ None) × (is_mapped future f ≡ false) }
+        → (flight_of future f ≡ None) × (is_mapped future f ≡ false)
+        × IsLater future (length history + 1) }
     ensures discarded { (history : History) (future : Future)
         → FramesStand history future
         → (f : ℕ)
