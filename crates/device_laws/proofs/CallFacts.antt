@@ -93,7 +93,7 @@ render_kept history actor s flight dead ticket going shows asked flown leaves st
     stay = renders_stay history (render_of actor flight.frame ∷ []) s flown stand.stands stand.shows
 
 -- a discard
-all_put : {X : Type 0} (P : X → Type 0) (p : X → Bool) (new : X) (xs : List X) → P new → AllByRecursion P xs → AllByRecursion P (replaced p new xs)
+pub all_put : {X : Type 0} (P : X → Type 0) (p : X → Bool) (new : X) (xs : List X) → P new → AllByRecursion P xs → AllByRecursion P (replaced p new xs)
 all_put P p new [] is all = tt
 all_put {X} P p new (x ∷ xs) is all = by (p x) (all_put P p new xs is all.1)
   where

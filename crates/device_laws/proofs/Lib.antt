@@ -18,6 +18,7 @@ pub mod OverFacts
 pub mod PhaseFacts
 pub mod ReachFacts
 pub mod RenderFacts
+pub mod ReplyFacts
 pub mod ShowingFacts
 pub mod StandingFacts
 pub mod StandingSteps

@@ -5,6 +5,7 @@ pub mod FramesStand
 pub mod Lent
 pub mod Over
 pub mod Renders
+pub mod Replies
 pub mod SameFrames
 pub mod Showings
 pub mod Standing

@@ -10,6 +10,7 @@ mod grant_laws;
 mod loan_laws;
 mod over_laws;
 mod render_laws;
+mod reply_laws;
 mod standing_laws;
 
 pub use entry_laws::{
@@ -27,6 +28,7 @@ pub use grant_laws::kept_frames_grant_what_the_history_grants;
 pub use loan_laws::{kept_loans_are_those_of_the_history, mapped_frames_have_pictures};
 pub use over_laws::flights_that_are_gone_are_over;
 pub use render_laws::flights_show_their_renders;
+pub use reply_laws::{replies_tell_what_was_read, what_was_told_stays_told};
 pub use standing_laws::{
     frames_stand_between_entries, frames_stand_on_by_a_call, frames_stand_on_by_a_loan,
     frames_stand_on_by_a_note,
