@@ -32,7 +32,7 @@ use Rattle.device_laws.proofs.RenderFacts.{FlightShows, PictureShows, render_beg
 use Rattle.device_laws.proofs.StandingFacts.{found}
 use Rattle.device_laws.proofs.StandingSteps.{all_filtered, discard_stands, others_stand, render_stands}
 use Rattle.device_laws.specs.FlightMoves.{moves_flights}
-use Rattle.device_laws.specs.Flown.{Flown, Run, runs_of, stopped_runs}
+use Rattle.device_laws.specs.Flown.{Flown, runs_of, stopped_runs}
 use Rattle.device_laws.specs.FramesStand.{FramesStand, LeavesBut, without_pictures}
 use Rattle.device_laws.specs.Lent.{AreLent, moves_channels}
 use Rattle.device_laws.specs.Renders.{Renders, ShowsRender}
@@ -63,13 +63,20 @@ others_show : (history : History) (f : ℕ) (pictures : List Finished) → AllBy
 others_show history f pictures shows = all_filtered (PictureShows history) (PictureShows history) (λ p. not (is_picture_of f p)) pictures (λ p is other. is) shows
 
 -- a render
+pub render_runs : (s : Future) (flight : Flying) (t : ℕ) → flight.ticket ≡ t → is_stopped flight ≡ false →
+    runs_of (with_flight s flight).flights ≡ runs_of s.flights ++ record { ticket = t; frame = flight.frame; stopped = false } ∷ []
+render_runs s flight t ticket going =
+    (begun_runs s flight).0
+    ∙ ap (λ t. runs_of s.flights ++ record { ticket = t; frame = flight.frame; stopped = is_stopped flight } ∷ []) ticket
+    ∙ ap (λ b. runs_of s.flights ++ record { ticket = t; frame = flight.frame; stopped = b } ∷ []) going
+
 pub render_kept : (history : History) (actor : ℕ) (s : Future) (flight : Flying) (dead : List ℕ) → flight.ticket ≡ length history + 1 → is_stopped flight ≡ false →
     scene_of (key_at flight) ≡ scene (scene_objects (after history).state) flight.frame → ((c : Channel) → is_asked flight.channels c ≡ asks_for (after history).state flight.frame c) →
     Flown history (runs_of s.flights) → LeavesBut history (render_of actor flight.frame) dead → FramesStand history s →
     FramesStand (history ++ render_of actor flight.frame ∷ []) (without_pictures (with_flight s flight) dead)
 render_kept history actor s flight dead ticket going shows asked flown leaves stand =
     stands_without (history ++ render_of actor flight.frame ∷ []) (with_flight s flight) dead (called_open history actor (RenderFrame flight.frame) reply.Done stand.open_)
-    (subst (λ rs. Standing (history ++ render_of actor flight.frame ∷ []) rs (pictures_left (λ h. not (has h dead)) (other_pictures flight.frame s.pictures))) (sym runs)
+    (subst (λ rs. Standing (history ++ render_of actor flight.frame ∷ []) rs (pictures_left (λ h. not (has h dead)) (other_pictures flight.frame s.pictures))) (sym (render_runs s flight (length history + 1) ticket going))
     (render_stands history actor flight.frame (λ h. not (has h dead)) (runs_of s.flights) s.pictures leaves stand.stands))
     (record {
       flights =
@@ -82,20 +89,11 @@ render_kept history actor s flight dead ticket going shows asked flown leaves st
     })
     (others_stay_lent history (render_of actor flight.frame) flight.frame (λ h. not (has h dead)) s.pictures refl leaves stand.stands.shown stand.lent)
   where
-    begun : Run
-    begun = record { ticket = length history + 1; frame = flight.frame; stopped = false }
-
-    runs : runs_of (with_flight s flight).flights ≡ runs_of s.flights ++ begun ∷ []
-    runs =
-        (begun_runs s flight).0
-        ∙ ap (λ t. runs_of s.flights ++ record { ticket = t; frame = flight.frame; stopped = is_stopped flight } ∷ []) ticket
-        ∙ ap (λ b. runs_of s.flights ++ record { ticket = length history + 1; frame = flight.frame; stopped = b } ∷ []) going
-
     stay : Renders (history ++ render_of actor flight.frame ∷ []) s
     stay = renders_stay history (render_of actor flight.frame ∷ []) s flown stand.stands stand.shows
 
 -- a discard
-all_put : {X : Type 0} (P : X → Type 0) (p : X → Bool) (new : X) (xs : List X) → P new → AllByRecursion P xs → AllByRecursion P (replaced p new xs)
+pub all_put : {X : Type 0} (P : X → Type 0) (p : X → Bool) (new : X) (xs : List X) → P new → AllByRecursion P xs → AllByRecursion P (replaced p new xs)
 all_put P p new [] is all = tt
 all_put {X} P p new (x ∷ xs) is all = by (p x) (all_put P p new xs is all.1)
   where
