@@ -1,33 +1,30 @@
 -- What always holds of the parts of a device holds once a call is entered that changes no frame.
-use Rattle.std.proofs.Common.{◌≡◌, ◌∙◌, ℕ, ◌+◌, ◌<◌, Bool, true, false, List, [], ◌∷◌, ◌++◌, Option, None, Some, length, length-append, refl, sym, ap, subst, arith}
+use Rattle.std.proofs.Common.{◌≡◌, ◌∙◌, ℕ, ◌+◌, ◌<◌, Bool, true, false, List, [], ◌∷◌, ◌++◌, None, Some, length, length-append, refl, sym, ap, subst, arith}
 use Rattle.std.specs.Prelude.{IsTrue}
 use Rattle.std.specs.Option.{unwrap_or}
 use Rattle.std.specs.List.{AllByRecursion, filter_map}
 use Rattle.std.specs.Map.{keys_of}
 use Rattle.flight_books.specs.Kept.{Books, with_future}
-use Rattle.frame_future.specs.Future.{Future}
 use Rattle.kept_worlds.specs.KeptMaps.{Worlds, kept_at, reach_at, shown_at}
 use Rattle.kept_worlds.specs.LastKept.{AreKept, AreShown, is_there}
 use Rattle.object_store.specs.Ends.{notice_of}
 use Rattle.object_store.specs.Gathers.{IsLeft, buried}
 use Rattle.object_store.specs.Kept.{CountsItsObjects, Stored}
 use Rattle.object_steps.specs.Carrying.{CanCarry, carried}
-use Rattle.object_steps.specs.Objects.{one_if, takes_memory, tellable}
 use Rattle.object_steps.specs.Resting.{Follows, IsOfObjects}
 use Rattle.object_steps.proofs.Rested.{ends_told, follows}
 use Rattle.object_steps.proofs.Tellables.{effect_tellable, fewer_told}
 use Rattle.past_laws.specs.Open.{IsOpen}
 use Rattle.past_laws.proofs.OpenFacts.{called_is_open, open_lets}
 use Rattle.past_laws.specs.Worlds.{Touches}
-use Rattle.seq_model.specs.Builds.{builds, is_touching}
+use Rattle.seq_model.specs.Builds.{is_touching}
 use Rattle.seq_model.specs.Life.{has}
 use Rattle.seq_model.specs.Histories.{History, rendered}
 use Rattle.seq_model.specs.Legal.{Legal}
 use Rattle.seq_model.specs.Steps.{after}
-use Rattle.seq_model.specs.Told.{end_of_object, gone, status_at, told_by}
+use Rattle.seq_model.specs.Told.{end_of_object, gone, status_at}
 use Rattle.seq_model.specs.declared.calls.Call.{Call}
 use Rattle.seq_model.specs.declared.calls.Call.TheVariants.{Commit, RenderFrame, DiscardFrame, MapFrame, UnmapArray, UnmapFrame}
-use Rattle.seq_model.specs.declared.calls.Entry.{Entry}
 use Rattle.seq_model.specs.declared.calls.Entry.TheVariants.{Called, Closed}
 use Rattle.seq_model.specs.declared.calls.Reply.{Reply}
 use Rattle.seq_model.specs.declared.calls.Reply.TheVariants as reply
@@ -41,7 +38,7 @@ use Rattle.device_laws.proofs.FramesStandFacts.{fewer_kept}
 use Rattle.world_snapshot.specs.Worlds.{World}
 use Rattle.device_core.specs.AllParts.{AreParts, Inside, IsLoaded, shown_by}
 use Rattle.device_core.specs.Calls.{HasEntered, touched_by}
-use Rattle.device_core.specs.Deaths.{all_but_those, unless_dead, untold}
+use Rattle.device_core.specs.Deaths.{all_but_those, unless_dead}
 use Rattle.device_core.specs.Standing.{IsStanding}
 use Rattle.device_core.specs.declared.loads.Load.{Load}
 use Rattle.device_core.proofs.EntryFacts.{all_loaded, leaves, parts_after, same_builds}

@@ -3,7 +3,7 @@ use Rattle.std.proofs.Common.{◌≡◌, ◌∙◌, ℕ, Bool, List, [], ◌∷�
 use Rattle.std.specs.Prelude.{IfSome, IsSome, slice_index_or, false}
 use Rattle.fx_math.specs.declared.scene.Scene.{Scene}
 use Rattle.picture_model.specs.Tiles.{tile_count}
-use Rattle.std.specs.List.{AllByRecursion, slice_get}
+use Rattle.std.specs.List.{slice_get}
 use Rattle.std.specs.Option.{IsSomeAnd, option_and_then, option_map_or, unwrap_or}
 use Rattle.std.proofs.lemmas.Option.{unwrap_or-slice_get}
 use Rattle.dev_types.specs.Channels.{number_of_channel}
@@ -13,8 +13,7 @@ use Rattle.flight_books.specs.declared.kept.Cargo.{Cargo}
 use Rattle.flight_books.proofs.PairLaws.{frame_booked}
 use Rattle.frame_future.specs.Channels.{is_asked}
 use Rattle.frame_future.specs.Flights.{Flying}
-use Rattle.frame_future.specs.Future.{Finished, Future, IsKept, asked_by, flight_of, is_picture_of, phase_by, phase_of, shown_by}
-use Rattle.seq_model.specs.Histories.{History}
+use Rattle.frame_future.specs.Future.{Finished, IsKept, asked_by, flight_of, is_picture_of, phase_by, shown_by}
 use Rattle.seq_model.specs.Pictures.{has_channel, tiles_at}
 use Rattle.seq_model.specs.Refusals.{phase_at}
 use Rattle.seq_model.specs.State.{Done, Flight}

@@ -1,8 +1,7 @@
-use Rattle.std.proofs.Common.{◌≡◌, ◌∙◌, ℕ, Bool, false, true, List, [], ◌∷◌, ◌++◌, None, Some, refl, sym, ap, subst}
-use Rattle.std.specs.Prelude.{IsTrue}
+use Rattle.std.proofs.Common.{◌∙◌, sym, ap}
 use Rattle.std.specs.Option.{option_and_then}
 use Rattle.kept_worlds.proofs.LastFacts.{stay_known}
-use Rattle.past_laws.specs.Worlds.{Touches, world_of}
+use Rattle.past_laws.specs.Worlds.{world_of}
 use Rattle.seq_model.specs.Steps.{after}
 use Rattle.seq_model.specs.declared.calls.Entry.TheVariants.{Called}
 use Rattle.device_core.proofs.CalledFacts.{touches, untouched}

@@ -1,14 +1,9 @@
-use Rattle.std.proofs.Common.{refl, ◌≡◌, ◌∙◌, ℕ, Option, Some, None, sym, ap, ap₂, subst}
+use Rattle.std.proofs.Common.{refl, ◌≡◌, ◌∙◌, Option, Some, None, sym, ap, subst}
 use Rattle.std.specs.Prelude.{IfSome, IsSome, option_copied, vec_capacity}
 use Rattle.frame_future.specs.Flights.{Flying}
-use Rattle.frame_future.specs.Future.{Future, IsKept, flight_of}
-use Rattle.seq_model.specs.Pictures.{scene_at, tiles_at}
-use Rattle.picture_model.specs.Limits.{IsSide}
-use Rattle.picture_model.specs.Tiles.{tile_count}
-use Rattle.fx_math.specs.declared.scene.Scene.{Scene}
-use Rattle.flight_books.specs.declared.kept.Cargo.{Cargo}
-use Rattle.device_core.specs.AllParts.{Inside, scene_of_load}
-use Rattle.device_core.specs.declared.loads.Load.{Load}
+use Rattle.frame_future.specs.Future.{IsKept, flight_of}
+use Rattle.seq_model.specs.Pictures.{tiles_at}
+use Rattle.device_core.specs.AllParts.{Inside}
 use Rattle.device_core.proofs.RecordFacts.{IsCargo, cargo_here, frame_cargo}
 use Rattle.device_core.proofs.parts.Parts.tiles.Goals as goal
 

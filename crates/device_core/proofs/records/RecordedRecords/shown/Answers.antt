@@ -1,7 +1,6 @@
-use Rattle.std.proofs.Common.{◌≡◌, ◌∙◌, Some, refl, sym, ap, subst}
+use Rattle.std.proofs.Common.{◌≡◌, ◌∙◌, refl, sym, ap, subst}
 use Rattle.std.specs.Prelude.{IfSome, IsSome, slice_index_or, false}
 use Rattle.dev_types.specs.Channels.{number_of_channel}
-use Rattle.frame_future.specs.Future.{flight_of}
 use Rattle.seq_model.specs.Pictures.{has_channel, tiles_at}
 use Rattle.seq_model.specs.Refusals.{phase_at}
 use Rattle.seq_model.specs.Steps.{after}
@@ -30,4 +29,4 @@ returns-in-Picture-clause-known c =
     let i = c.self.inside.parts.now in
     let phase = subst (λ (j : Inside). phase_at (after j.history) c.args.h ≡ phase_of c.args.shows) (sym c.self.view_is) c.requires ∙ ap phase_of c.in-Picture.is in
     λ channel. ap (λ asked. slice_index_or asked (number_of_channel channel) false) c.asked.ensures ∙ asks_as i c.args.h c.in-Picture.ticket c.self.invariant.0 c.self.invariant.1 phase channel
-        ∙ ap (λ (j : Inside). has_channel j.history c.in-Picture.ticket channel) c.self.view_is
+    ∙ ap (λ (j : Inside). has_channel j.history c.in-Picture.ticket channel) c.self.view_is
