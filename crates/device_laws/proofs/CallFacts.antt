@@ -3,6 +3,7 @@ use Rattle.std.proofs.Common.{ℕ, ◌+◌, ◌≡◌, ◌∙◌, not, Bool, tru
 use Rattle.std.specs.Prelude.{cond}
 use Rattle.std.specs.List.{AllByRecursion}
 use Rattle.dev_types.specs.declared.handles.Channel.{Channel}
+use Rattle.dev_types.specs.declared.refusals.Refused.{Refused}
 use Rattle.frame_future.specs.Channels.{is_asked}
 use Rattle.frame_future.specs.Flights.{Flying, is_stopped, key_at}
 use Rattle.frame_future.specs.Future.{Finished, Future, IsDiscarded, IsKept, flight_of, is_flight_of, is_picture_of, replaced, with_flight}
@@ -17,7 +18,7 @@ use Rattle.seq_model.specs.Refusals.{phase_at}
 use Rattle.seq_model.specs.State.{Done, scene_objects}
 use Rattle.seq_model.specs.Steps.{after}
 use Rattle.seq_model.specs.declared.calls.Call.{Call}
-use Rattle.seq_model.specs.declared.calls.Call.TheVariants.{DiscardFrame, RenderFrame}
+use Rattle.seq_model.specs.declared.calls.Call.TheVariants.{DiscardFrame, MapFrame, RenderFrame, UnmapFrame}
 use Rattle.seq_model.specs.declared.calls.Entry.{Entry}
 use Rattle.seq_model.specs.declared.calls.Entry.TheVariants.{Called}
 use Rattle.seq_model.specs.declared.calls.Reply.{Reply}
@@ -50,6 +51,15 @@ call_kept history actor call r s dead still quiet flown leaves stand =
     (others_stand history (Called actor call r) (λ h. not (has h dead)) (runs_of s.flights) s.pictures still leaves stand.stands)
     (renders_stay history (Called actor call r ∷ []) s flown stand.stands stand.shows)
     (others_lent history (Called actor call r) (λ h. not (has h dead)) s.pictures quiet leaves stand.stands.shown stand.lent)
+
+-- a call that was refused
+pub refused_moves_nothing : (actor : ℕ) (call : Call) (refused : Refused) →
+    (moves_flights (Called actor call (reply.Denied refused)) ≡ false) × (moves_channels (Called actor call (reply.Denied refused)) ≡ false)
+refused_moves_nothing actor (RenderFrame f) refused = (refl, refl)
+refused_moves_nothing actor (DiscardFrame f) refused = (refl, refl)
+refused_moves_nothing actor (MapFrame f c) refused = (refl, refl)
+refused_moves_nothing actor (UnmapFrame f number) refused = (refl, refl)
+refused_moves_nothing actor call refused = (refl, refl)
 
 -- the pictures of other frames
 others_stay_lent : (history : History) (e : Entry) (f : ℕ) (left : ℕ → Bool) (pictures : List Finished) → moves_channels e ≡ false → AreLeft history e left →

@@ -1,27 +1,31 @@
 -- The renders whose flights are gone, as entries are added to a history.
 use Rattle.std.proofs.Common.{ℕ, zero, suc, ◌+◌, ◌==◌, ◌≡◌, ◌<◌, ◌≤◌, ◌∙◌, ◌⊎◌, inl, inr, not, Bool, true, false, List, [], ◌∷◌, ◌++◌, Option, None, Some, length, refl, sym, ap, arith}
 use Rattle.std.specs.Prelude.{cond, ◌&&◌, ◌||◌}
+use Rattle.std.specs.List.{AllByRecursion, find}
 use Rattle.std.specs.Option.{IsSomeAnd, is_some}
 use Rattle.std.proofs.lemmas.Bool.{cases_lt, eq-eqb, eqb-true, or_left, or_right}
 use Rattle.std.proofs.lemmas.List.{length-append, map-append}
 use Rattle.flight_books.specs.Kept.{over_by, shown_over}
 use Rattle.flight_books.specs.Sweeps.{note_of_end, tickets_of}
-use Rattle.frame_future.specs.Flights.{Flying, awaited, looked_at}
-use Rattle.frame_future.specs.Future.{Future, flight_at}
+use Rattle.frame_future.specs.Flights.{Flying, HasEnded, awaited, looked_at}
+use Rattle.frame_future.specs.Future.{Future, flight_at, has_ticket}
 use Rattle.frame_future.specs.Reads.{AreSeen, ended_by}
 use Rattle.frame_future.specs.declared.phase.Ended.{Ended}
 use Rattle.seq_model.proofs.Afters.{frame_early, frame_last, frame_within}
+use Rattle.seq_model.proofs.Reached.{reach_of_no_render}
 use Rattle.seq_model.specs.Histories.{History, frame_at, rendered}
 use Rattle.seq_model.specs.Legal.{Legal}
 use Rattle.seq_model.specs.Life.{has}
-use Rattle.seq_model.specs.State.{flights}
-use Rattle.seq_model.specs.Steps.{after}
+use Rattle.seq_model.specs.State.{flights, object_at}
+use Rattle.seq_model.specs.Steps.{after, is_reached_by}
 use Rattle.seq_model.specs.declared.calls.Call.TheVariants.{RenderFrame, Retain}
 use Rattle.seq_model.specs.declared.calls.Entry.{Entry}
 use Rattle.seq_model.specs.declared.calls.Entry.TheVariants.{Called, Finished, Left}
 use Rattle.seq_model.specs.declared.calls.Reply.TheVariants as reply
 use Rattle.device_laws.proofs.FlightSteps.{flights_by}
 use Rattle.device_laws.proofs.NoteFacts.{first_of}
+use Rattle.device_laws.proofs.ReachFacts.{gone_is_not_reached, reached_of}
+use Rattle.device_laws.proofs.StandingFacts.{found}
 use Rattle.device_laws.proofs.SweepFacts.{has_joined, none_of}
 use Rattle.device_laws.specs.FlightMoves.{flies_after}
 use Rattle.device_laws.specs.Over.{AllOver, is_note}
@@ -115,3 +119,26 @@ note_over history last old looked e over legal s all t is landed =
     by (inr now) any = let wrong : false ≡ true = sym (no_render e.ticket e.left) ∙ now.1 in absurd cc
     by (inl was) (inl ended) = or_right (has t (tickets_of over)) (has t (tickets_of (over_by old (Some e)))) (ap (λ k. has k (tickets_of (over_by old (Some e)))) (sym ended) ∙ is_over last old looked e s)
     by (inl was) (inr flew) = or_left (has t (tickets_of over)) (has t (tickets_of (over_by old (Some e)))) (all t was flew)
+
+-- what is gone was reached by flights alone that are over
+found_over : (t : ℕ) (over : List Flying) → has t (tickets_of over) ≡ true → (f : Flying) × (find (has_ticket t) over ≡ Some f)
+found_over t [] is = absurd cc
+found_over t (f ∷ over) is = by (f.ticket == t) is (found_over t over)
+  where
+    by : (b : Bool) → (b || has t (tickets_of over)) ≡ true → (has t (tickets_of over) ≡ true → (f : Flying) × (find (has_ticket t) over ≡ Some f)) → (g : Flying) × (cond b (Some f) (find (has_ticket t) over) ≡ Some g)
+    by true is rest = (f, refl)
+    by false is rest = rest is
+
+pub gone_is_unused : (history : History) (over : List Flying) (t h : ℕ) → Legal history → AllOver history over → AllByRecursion HasEnded over → object_at (after history).state h ≡ None →
+    is_reached_by (after history).reached t h ≡ true → (f : Flying) × (find (has_ticket t) over ≡ Some f) × HasEnded f
+gone_is_unused history over t h legal all ended gone reached = by (frame_at history t) refl
+  where
+    landed : (b : Bool) → has t (flights (after history).state) ≡ b → b ≡ false
+    landed false is = refl
+    landed true is = let wrong : true ≡ false = sym reached ∙ gone_is_not_reached history legal t h is gone in absurd cc
+
+    by : (x : Option ℕ) → frame_at history t ≡ x → (f : Flying) × (find (has_ticket t) over ≡ Some f) × HasEnded f
+    by None none = let wrong : false ≡ true = reached_of (after history).reached t h None (reach_of_no_render history t none) reached in absurd cc
+    by (Some f) some =
+        let one : (f : Flying) × (find (has_ticket t) over ≡ Some f) = found_over t over (all t (ap is_some some) (landed (has t (flights (after history).state)) refl)) in
+        (one.0, one.1, (found HasEnded (has_ticket t) over one.0 ended one.1).0)

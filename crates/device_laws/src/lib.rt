@@ -20,7 +20,8 @@ pub use entry_laws::{
 pub use flight_laws::{
     discards_stop_a_flight, flights_are_shown_by_their_frames, flights_hold_what_they_reached,
     kept_phases_are_those_of_the_history, maps_lend_a_channel, notes_end_a_flight,
-    nothing_is_kept_at_first, other_entries_keep_the_flights, renders_begin_a_flight,
+    nothing_is_kept_at_first, other_entries_keep_the_flights, refused_calls_move_nothing,
+    renders_begin_a_flight,
 };
 pub use flown_laws::kept_flights_are_those_of_the_history;
 pub use frame_laws::{calls_on_kept_frames_leave_them, same_frames_stand_alike};
