@@ -1,5 +1,6 @@
 -- Lemmas of this crate.
 pub mod CalledFacts
+pub mod DiscardFacts
 pub mod EndFacts
 pub mod EntryFacts
 pub mod FollowFacts

@@ -6,5 +6,6 @@ pub mod Deaths
 pub mod Standing
 pub mod Notes
 pub mod Calls
+pub mod Discards
 pub mod Renders
 pub mod Sweeps

@@ -4,6 +4,7 @@
 
 mod burials;
 mod calls;
+mod discards;
 mod ends;
 mod holds;
 mod loads;
