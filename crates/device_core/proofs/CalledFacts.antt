@@ -11,9 +11,10 @@ use Rattle.object_store.specs.Ends.{notice_of}
 use Rattle.object_store.specs.Gathers.{IsLeft, buried}
 use Rattle.object_store.specs.Kept.{CountsItsObjects, Stored}
 use Rattle.object_steps.specs.Carrying.{CanCarry, carried}
+use Rattle.object_steps.specs.Objects.{one_if, takes_memory, tellable}
 use Rattle.object_steps.specs.Resting.{Follows, IsOfObjects}
 use Rattle.object_steps.proofs.Rested.{ends_told, follows}
-use Rattle.object_steps.proofs.Tellables.{effect_tellable, fewer_told}
+use Rattle.object_steps.proofs.Tellables.{fewer_told}
 use Rattle.past_laws.specs.Open.{IsOpen}
 use Rattle.past_laws.proofs.OpenFacts.{called_is_open, open_lets}
 use Rattle.past_laws.specs.Worlds.{Touches}
@@ -30,10 +31,10 @@ use Rattle.seq_model.specs.declared.calls.Reply.{Reply}
 use Rattle.seq_model.specs.declared.calls.Reply.TheVariants as reply
 use Rattle.device_laws.specs.FlightMoves.{moves_flights}
 use Rattle.device_laws.specs.Flown.{Flown, LetsNotes, runs_of}
-use Rattle.device_laws.specs.FramesStand.{FramesStand, without_pictures}
+use Rattle.device_laws.specs.FramesStand.{FramesStand, LeavesBut, without_pictures}
 use Rattle.device_laws.specs.Lent.{moves_channels}
 use Rattle.device_laws.proofs.CallFacts.{call_kept}
-use Rattle.device_laws.proofs.FlownFacts.{others_keep}
+use Rattle.device_laws.proofs.FlyFacts.{call_flown}
 use Rattle.device_laws.proofs.FramesStandFacts.{fewer_kept}
 use Rattle.world_snapshot.specs.Worlds.{World}
 use Rattle.device_core.specs.AllParts.{AreParts, Inside, IsLoaded, shown_by}
@@ -90,52 +91,60 @@ pub called_lets : (history : History) (actor : ℕ) (call : Call) (r : Reply) �
 called_lets history actor call r open_ note quiet =
     open_lets (history ++ Called actor call r ∷ []) note (called_is_open (record (after history) { seen = history }) open_ actor call r)
 
-module _ (old : Inside) (actor : ℕ) (call : Call) (r : Reply) (p : AreParts old) (counted_old : CountsItsObjects old.objects.stored)
-    (objects : IsOfObjects call r) (can : CanCarry old.objects.stored call r) (legal : Legal (old.history ++ Called actor call r ∷ [])) where
+-- A call was carried out on the objects, and perhaps on the flights, of which there are as many as before; and what nothing holds any more is gone
+module _ (old new : Inside) (actor : ℕ) (call : Call) (r : Reply) (moved : Stored) (mid : Worlds World) (p : AreParts old)
+    (follows : Follows moved old.history (Called actor call r)) (quiet : rendered (Called actor call r) ≡ None)
+    (more : tellable moved.state ≡ tellable old.objects.stored.state + one_if (takes_memory call r))
+    (counted_moved : CountsItsObjects moved) (counted : CountsItsObjects new.objects.stored)
+    (is_left : IsLeft moved new.objects.stored) (is_buried : new.objects.stored.state ≡ buried moved)
+    (departed : new.objects.departed ≡ keys_of (gone moved.state new.objects.stored.state))
+    (grown : new.history ≡ old.history ++ Called actor call r ∷ [])
+    (flown : Flown (old.history ++ Called actor call r ∷ []) (runs_of new.flights.future.flights))
+    (count : length new.flights.future.flights ≡ length old.flights.future.flights) (cargo : new.flights.cargo ≡ old.flights.cargo)
+    (touched : AreKept (is_there old.history) (old.history ++ Called actor call r ∷ []) (reach_at mid))
+    (shows : AreShown old.history (shown_at shown_by mid))
+    (forgotten : (w : ℕ) → kept_at new.worlds w ≡ unless_dead new.objects.departed w (kept_at mid w))
+    (known : (history : History) (there : ℕ → Bool) → AreKept there history (reach_at mid) → AreKept (all_but_those new.objects.departed there) history (reach_at new.worlds))
+    (same : new.builds ≡ old.builds) (room : new.room ≡ old.room) where
+  no_close : Called actor call r ≡ Closed → ⊥
+  no_close is = absurd cc
+
+  pub called_leaves : LeavesBut old.history (Called actor call r) new.objects.departed
+  called_leaves = leaves old.history (Called actor call r) moved new.objects.stored new.objects.departed no_close follows counted_moved counted is_left is_buried departed
+
+  pub called_parts : IsStanding old → length old.history + length old.flights.future.flights + 1 < old.room → AreParts new
+  called_parts stands place = parts_after old new (Called actor call r) moved mid p no_close follows counted_moved counted is_left is_buried departed grown flown
+      (subst (AllByRecursion (IsLoaded (old.history ++ Called actor call r ∷ []))) (sym cargo) (all_loaded old.history (Called actor call r) old.flights.cargo p.loaded))
+      (called_lets old.history actor call r stands.open_) touched shows forgotten known
+      (same ∙ p.built ∙ sym (same_builds old.history (Called actor call r) quiet))
+      (let longer = ap length grown ∙ length-append old.history (Called actor call r ∷ []) in omega (arith, place, longer, count, room))
+
+  pub called_enters : filter_map notice_of new.objects.dead ≡ filter_map end_of_object (gone moved.state new.objects.stored.state) → HasEntered actor call r old new
+  called_enters notices = record {
+    grown = grown;
+    told = ap (λ ns. status_at (Called actor call r) ++ ns) notices ∙ sym (ends_told old.history (Called actor call r) moved follows new.objects.stored.state is_buried no_close);
+    fewer = (let parts = fewer_told moved new.objects.stored is_left in let dead = ap length notices in omega (arith, parts, dead, more));
+    room = (let same_room = room in omega (arith, same_room));
+  }
+
+-- a call that changes no frame, and was carried out
+module _ (old : Inside) (actor : ℕ) (call : Call) (r : Reply) (p : AreParts old) (objects : IsOfObjects call r) where
   abbrev pub moved : Stored
   moved = carried (length old.history + 1) call r old.objects.stored
 
-  pub called_follows : Follows moved old.history (Called actor call r)
-  called_follows = follows old.objects.stored old.history actor call r p.rest counted_old objects can legal
+  pub moved_follows : CountsItsObjects old.objects.stored → CanCarry old.objects.stored call r → Legal (old.history ++ Called actor call r ∷ []) → Follows moved old.history (Called actor call r)
+  moved_follows counted can legal = follows old.objects.stored old.history actor call r p.rest counted objects can legal
 
-  no_close : Called actor call r ≡ Closed → ⊥
-  no_close same = absurd cc
+  pub moved_flown : (new : Inside) → Legal (old.history ++ Called actor call r ∷ []) → new.flights ≡ with_future old.flights (without_pictures old.flights.future new.objects.departed)
+      → Flown (old.history ++ Called actor call r ∷ []) (runs_of new.flights.future.flights)
+  moved_flown new legal flights = subst (λ (b : Books Load). Flown (old.history ++ Called actor call r ∷ []) (runs_of b.future.flights)) (sym flights)
+      (call_flown old.history (Called actor call r) old.flights.future new.objects.departed legal (no_flight_moves actor call r objects) p.flown)
 
-  module _ (new : Inside) (mid : Worlds World) (counted_moved : CountsItsObjects moved) (counted : CountsItsObjects new.objects.stored)
-      (is_left : IsLeft moved new.objects.stored) (is_buried : new.objects.stored.state ≡ buried moved)
-      (departed : new.objects.departed ≡ keys_of (gone moved.state new.objects.stored.state))
-      (grown : new.history ≡ old.history ++ Called actor call r ∷ [])
-      (flights : new.flights ≡ with_future old.flights (without_pictures old.flights.future new.objects.departed))
-      (touched : AreKept (is_there old.history) (old.history ++ Called actor call r ∷ []) (reach_at mid))
-      (shows : AreShown old.history (shown_at shown_by mid))
-      (forgotten : (w : ℕ) → kept_at new.worlds w ≡ unless_dead new.objects.departed w (kept_at mid w))
-      (known : (history : History) (there : ℕ → Bool) → AreKept there history (reach_at mid) → AreKept (all_but_those new.objects.departed there) history (reach_at new.worlds))
-      (same : new.builds ≡ old.builds) (room : new.room ≡ old.room) where
-    frames_are : new.flights.future.flights ≡ old.flights.future.flights
-    frames_are = ap (λ (b : Books Load). b.future.flights) flights ∙ (fewer_kept old.flights.future new.objects.departed).0
+  pub moved_count : (new : Inside) → new.flights ≡ with_future old.flights (without_pictures old.flights.future new.objects.departed) → length new.flights.future.flights ≡ length old.flights.future.flights
+  moved_count new flights = ap (λ (b : Books Load). length b.future.flights) flights ∙ ap length (fewer_kept old.flights.future new.objects.departed).0
 
-    pub called_parts : IsStanding old → length old.history + length old.flights.future.flights + 1 < old.room → AreParts new
-    called_parts stands place = parts_after old new (Called actor call r) moved mid p no_close called_follows counted_moved counted is_left is_buried departed grown
-        (subst (λ fs. Flown (old.history ++ Called actor call r ∷ []) (runs_of fs)) (sym frames_are)
-        (others_keep old.history (Called actor call r) (runs_of old.flights.future.flights) legal (no_flight_moves actor call r objects) p.flown))
-        (subst (λ (b : Books Load). AllByRecursion (IsLoaded (old.history ++ Called actor call r ∷ [])) b.cargo) (sym flights) (all_loaded old.history (Called actor call r) old.flights.cargo p.loaded))
-        (called_lets old.history actor call r stands.open_) touched shows forgotten known
-        (same ∙ p.built ∙ sym (same_builds old.history (Called actor call r) (no_render actor call r objects)))
-        (let longer = ap length grown ∙ length-append old.history (Called actor call r ∷ []) in let count = ap length frames_are in
-        omega (arith, place, longer, count, room))
-
-    pub called_stands : IsStanding old → IsStanding new
-    called_stands stands =
-        subst (λ h. FramesStand h new.flights.future) (sym grown) (subst (λ (b : Books Load). FramesStand (old.history ++ Called actor call r ∷ []) b.future) (sym flights)
-        (call_kept old.history actor call r old.flights.future new.objects.departed (no_flight_moves actor call r objects) (no_channel_moves actor call r objects) p.flown
-        (leaves old.history (Called actor call r) moved new.objects.stored new.objects.departed no_close called_follows counted_moved counted is_left is_buried departed) stands))
-
-    pub called_enters : filter_map notice_of new.objects.dead ≡ filter_map end_of_object (gone moved.state new.objects.stored.state) → HasEntered actor call r old new
-    called_enters notices = record {
-      grown = grown;
-      told = ap (λ ns. status_at (Called actor call r) ++ ns) notices ∙ sym (ends_told old.history (Called actor call r) moved called_follows new.objects.stored.state is_buried no_close);
-      fewer = (let parts = fewer_told moved new.objects.stored is_left in let dead = ap length notices in
-          let more = effect_tellable (length old.history + 1) call r old.objects.stored can in
-          omega (arith, parts, dead, more));
-      room = (let same_room = room in omega (arith, same_room));
-    }
+  pub moved_stands : (new : Inside) → new.history ≡ old.history ++ Called actor call r ∷ [] → new.flights ≡ with_future old.flights (without_pictures old.flights.future new.objects.departed)
+      → LeavesBut old.history (Called actor call r) new.objects.departed → IsStanding old → IsStanding new
+  moved_stands new grown flights left stands =
+      subst (λ h. FramesStand h new.flights.future) (sym grown) (subst (λ (b : Books Load). FramesStand (old.history ++ Called actor call r ∷ []) b.future) (sym flights)
+      (call_kept old.history actor call r old.flights.future new.objects.departed (no_flight_moves actor call r objects) (no_channel_moves actor call r objects) p.flown left stands))

@@ -31,7 +31,7 @@ use Rattle.seq_model.specs.declared.calls.Reply.TheVariants as reply
 use Rattle.seq_model.proofs.Came.{stop_objects}
 use Rattle.seq_model.proofs.Changes.{keys_of_changed}
 use Rattle.device_laws.specs.Flown.{Flown, run_of, runs_of, stopped_run}
-use Rattle.device_laws.specs.FramesStand.{FramesStand, without_pictures}
+use Rattle.device_laws.specs.FramesStand.{FramesStand, LeavesBut, without_pictures}
 use Rattle.device_laws.proofs.CallFacts.{discard_kept}
 use Rattle.device_laws.proofs.FlyFacts.{discard_flown}
 use Rattle.device_laws.proofs.FramesStandFacts.{fewer_kept}
@@ -90,40 +90,19 @@ module _ (old : Inside) (actor h room : ℕ) (p : AreParts old) (legal : Legal (
         ∙ ap (λ (s : State). reaches (step (after old.history) entry).reached (discard h s) k) (sym p.rest.state);
   }
 
-  no_close : entry ≡ Closed → ⊥
-  no_close same = absurd cc
+  pub discard_tells : tellable moved.state ≡ tellable old.objects.stored.state + 0
+  discard_tells = let as_before = same_tellable h old.objects.stored.state in omega (arith, as_before)
 
-  module _ (new : Inside) (mid : Future) (counted_moved : CountsItsObjects moved) (counted : CountsItsObjects new.objects.stored)
-      (is_left : IsLeft moved new.objects.stored) (is_buried : new.objects.stored.state ≡ buried moved)
-      (departed : new.objects.departed ≡ keys_of (gone moved.state new.objects.stored.state))
-      (grown : new.history ≡ old.history ++ entry ∷ [])
-      (kept : IsKept old.flights.future) (discarded : IsDiscarded h old.flights.future mid (flight_of old.flights.future h))
-      (flights : new.flights.future ≡ without_pictures mid new.objects.departed) (cargo : new.flights.cargo ≡ old.flights.cargo)
-      (forgotten : (w : ℕ) → kept_at new.worlds w ≡ unless_dead new.objects.departed w (kept_at old.worlds w))
-      (known : (history : History) (there : ℕ → Bool) → AreKept there history (reach_at old.worlds) → AreKept (all_but_those new.objects.departed there) history (reach_at new.worlds))
-      (same : new.builds ≡ old.builds) (same_room : new.room ≡ old.room) where
-    pub discard_parts : IsStanding old → length old.history + length old.flights.future.flights + 1 < old.room → AreParts new
-    discard_parts stands place = parts_after old new entry moved old.worlds p no_close discard_follows counted_moved counted is_left is_buried departed grown
-        (subst (λ (s : Future). Flown (old.history ++ entry ∷ []) (runs_of s.flights)) (sym flights)
-        (discard_flown old.history actor h old.flights.future mid new.objects.departed legal kept discarded p.flown))
-        (subst (AllByRecursion (IsLoaded (old.history ++ entry ∷ []))) (sym cargo) (all_loaded old.history entry old.flights.cargo p.loaded))
-        (called_lets old.history actor (DiscardFrame h) reply.Done stands.open_)
-        (stay_known old.history entry (is_there old.history) (reach_at old.worlds) refl (λ objects. refl) p.kept) p.shown forgotten known
-        (same ∙ p.built ∙ sym (same_builds old.history entry refl))
-        (let longer = ap length grown ∙ length-append old.history (entry ∷ []) in
-        let count = ap (λ (s : Future). length s.flights) flights ∙ ap length (fewer_kept mid new.objects.departed).0 ∙ same_count h old.flights.future mid kept discarded in
-        omega (arith, place, longer, count, same_room))
+  module _ (new : Inside) (mid : Future) (grown : new.history ≡ old.history ++ entry ∷ []) (kept : IsKept old.flights.future)
+      (discarded : IsDiscarded h old.flights.future mid (flight_of old.flights.future h)) (flights : new.flights.future ≡ without_pictures mid new.objects.departed) where
+    pub discard_flies : Flown (old.history ++ entry ∷ []) (runs_of new.flights.future.flights)
+    discard_flies = subst (λ (s : Future). Flown (old.history ++ entry ∷ []) (runs_of s.flights)) (sym flights)
+        (discard_flown old.history actor h old.flights.future mid new.objects.departed legal kept discarded p.flown)
 
-    pub discard_stands : IsStanding old → IsStanding new
-    discard_stands stands =
+    pub discard_count : length new.flights.future.flights ≡ length old.flights.future.flights
+    discard_count = ap (λ (s : Future). length s.flights) flights ∙ ap length (fewer_kept mid new.objects.departed).0 ∙ same_count h old.flights.future mid kept discarded
+
+    pub discard_stands : LeavesBut old.history entry new.objects.departed → IsStanding old → IsStanding new
+    discard_stands left stands =
         subst (λ history. FramesStand history new.flights.future) (sym grown) (subst (FramesStand (old.history ++ entry ∷ [])) (sym flights)
-        (discard_kept old.history actor h old.flights.future mid new.objects.departed kept discarded p.flown
-        (leaves old.history entry moved new.objects.stored new.objects.departed no_close discard_follows counted_moved counted is_left is_buried departed) stands))
-
-    pub discard_enters : filter_map notice_of new.objects.dead ≡ filter_map end_of_object (gone moved.state new.objects.stored.state) → HasEntered actor (DiscardFrame h) reply.Done old new
-    discard_enters notices = record {
-      grown = grown;
-      told = notices ∙ sym (ends_told old.history entry moved discard_follows new.objects.stored.state is_buried no_close);
-      fewer = (let parts = fewer_told moved new.objects.stored is_left in let dead = ap length notices in let as_before = same_tellable h old.objects.stored.state in omega (arith, parts, dead, as_before));
-      room = (let room_is = same_room in omega (arith, room_is));
-    }
+        (discard_kept old.history actor h old.flights.future mid new.objects.departed kept discarded p.flown left stands))
