@@ -6,6 +6,7 @@ pub mod KeptFacts
 pub mod LookFacts
 pub mod NotedFacts
 pub mod OnceFacts
+pub mod RenderSteps
 pub mod RoomFacts
 pub mod SeenFacts
 pub mod ShownFacts

@@ -14,4 +14,4 @@ mod renders;
 pub use graves::Grave;
 pub use loads::Load;
 pub use parts::Parts;
-pub use renders::{Build, NewLoad, load_of};
+pub use renders::{Build, NewLoad, keep_build, load_of};
