@@ -14,7 +14,7 @@ use Rattle.seq_model.specs.declared.calls.Entry.{Entry}
 use Rattle.seq_model.specs.declared.calls.Entry.TheVariants.{Finished, Left}
 use Rattle.frame_future.specs.declared.phase.Ended.{Ended}
 use Rattle.flight_books.specs.Sweeps.{note_of_end}
-use Rattle.object_store.specs.Kept.{Stored}
+use Rattle.object_steps.specs.Objects.{Objects, with_state}
 use Rattle.std.specs.List.{filter}
 use Rattle.std.specs.Prelude.{◌==◌, not}
 use Rattle.device_laws.specs.Showings.{is_flight, showing_at, showing_of, nothing_shown}
@@ -75,17 +75,17 @@ module _ (s : State) (t frame : ℕ) (phase : Phase) (rising : RiseWithin 1 s.ne
           (changes (at frame s.objects) flies ∙ sym (changed_here frame (set_phase phase) s))
       by k (inr apart) = stays k (elsewhere k apart) ∙ sym (others_unchanged frame k (set_phase phase) s apart)
 
--- the note of a flight that was stopped, and of one that was not, as acts on a store
-pub stopped_end : (old mid new : Stored) (e : Ended) (place : ℕ) → e.left ≡ true → mid ≡ record old { state = end_flights e.ticket Empty old.state }
-    → new ≡ record mid { state = record mid.state { stopped = filter (λ u. not (u == e.ticket)) mid.state.stopped } }
-    → new ≡ record old { state = change place (note_of_end e) old.state }
+-- the note of a flight that was stopped, and of one that was not, as acts on the objects
+pub stopped_end : (old mid new : Objects) (e : Ended) (place : ℕ) → e.left ≡ true → mid ≡ with_state old (end_flights e.ticket Empty old.stored.state)
+    → new ≡ with_state mid (record mid.stored.state { stopped = filter (λ u. not (u == e.ticket)) mid.stored.state.stopped })
+    → new ≡ with_state old (change place (note_of_end e) old.stored.state)
 unfolding change end_flights
 stopped_end old mid new e place left first then_ =
-    then_ ∙ ap (λ (m : Stored). record m { state = record m.state { stopped = filter (λ u. not (u == e.ticket)) m.state.stopped } }) first
-    ∙ ap (λ (n : Entry). record old { state = change place n old.state }) (sym (ap (λ b. cond b (Left e.ticket) (Finished e.ticket)) left))
+    then_ ∙ ap (λ (m : Objects). with_state m (record m.stored.state { stopped = filter (λ u. not (u == e.ticket)) m.stored.state.stopped })) first
+    ∙ ap (λ (n : Entry). with_state old (change place n old.stored.state)) (sym (ap (λ b. cond b (Left e.ticket) (Finished e.ticket)) left))
 
-pub finished_end : (old new : Stored) (e : Ended) (place : ℕ) → e.left ≡ false → new ≡ record old { state = end_flights e.ticket (Done e.ticket) old.state }
-    → new ≡ record old { state = change place (note_of_end e) old.state }
+pub finished_end : (old new : Objects) (e : Ended) (place : ℕ) → e.left ≡ false → new ≡ with_state old (end_flights e.ticket (Done e.ticket) old.stored.state)
+    → new ≡ with_state old (change place (note_of_end e) old.stored.state)
 unfolding change
 finished_end old new e place left first =
-    first ∙ ap (λ (n : Entry). record old { state = change place n old.state }) (sym (ap (λ b. cond b (Left e.ticket) (Finished e.ticket)) left))
+    first ∙ ap (λ (n : Entry). with_state old (change place n old.stored.state)) (sym (ap (λ b. cond b (Left e.ticket) (Finished e.ticket)) left))

@@ -7,10 +7,8 @@ use Rattle.std.specs.Option.{is_some}
 use Rattle.object_store.specs.Parts.{at}
 use Rattle.object_store.proofs.DeadSteps.{has_key}
 use Rattle.seq_model.specs.Life.{has}
-use Rattle.seq_model.specs.Histories.{History}
-use Rattle.kept_worlds.specs.LastKept.{AreKept, all_but, kept_by}
-use Rattle.past_laws.specs.Worlds.{last_use}
-use Rattle.device_core.specs.Graves.{all_but_those}
+use Rattle.kept_worlds.specs.LastKept.{all_but}
+use Rattle.device_core.specs.Deaths.{all_but_those}
 
 swap_not : (a b c : Bool) → (not b && (not a && c)) ≡ (not (a || b) && c)
 swap_not true true c = refl
@@ -47,23 +45,14 @@ has_filtered {X} q w (e ∷ es) = go (cases_Bool (q e.0)) (cases_Bool (e.0 == w)
     go (inr fails) (inr other) rest =
         ap (λ b. q w && (b || has w (keys_of es))) other ∙ rest ∙ sym (ap (λ b. has w (keys_of (cond b (e ∷ filter (λ x. q x.0) es) (filter (λ x. q x.0) es)))) fails)
 
--- what is kept of those that are left
-pub kept_left : (there now : ℕ → Bool) (dead : List ℕ) (history : History) (reaches : ℕ → Option (List ℕ)) → ((w : ℕ) → (not (has w dead) && there w) ≡ now w)
-    → AreKept (all_but_those dead there) history reaches → AreKept now history reaches
-kept_left there now dead history reaches left kept w = kept w ∙ ap (λ b. kept_by b (last_use history w)) (but_those dead there w ∙ left w)
-
-not_dead : (n a : Bool) → (not (not n && a) && a) ≡ (n && a)
-not_dead true true = refl
-not_dead true false = refl
-not_dead false true = refl
-not_dead false false = refl
+not_not : (n : Bool) → not (not n && true) ≡ n
+not_not true = refl
+not_not false = refl
 
 -- of what was there, that is there now which did not die
-pub left_now : {X : Type 0} (was moved now : List (ℕ × X)) (w : ℕ) → keys_of moved ≡ keys_of was → now ≡ filter (λ e. is_some (at e.0 now)) moved →
-    (not (has w (keys_of (filter (λ e. not (has e.0 (keys_of now))) moved))) && is_some (at w was)) ≡ is_some (at w now)
-left_now was moved now w same left =
-    let there : is_some (at w was) ≡ has w (keys_of moved) = sym (has_key w was) ∙ ap (has w) (sym same) in
-    let here : has w (keys_of now) ≡ (is_some (at w now) && has w (keys_of moved)) = ap (λ es. has w (keys_of es)) left ∙ sym (has_filtered (λ k. is_some (at k now)) w moved) in
-    ap₂ (λ d a. not d && a) (sym (has_filtered (λ k. not (has k (keys_of now))) w moved)) there
-    ∙ not_dead (has w (keys_of now)) (has w (keys_of moved))
-    ∙ ap (λ b. b && has w (keys_of moved)) (has_key w now) ∙ sym here ∙ has_key w now
+pub left_of : {X : Type 0} (moved now : List (ℕ × X)) (w : ℕ) → has w (keys_of moved) ≡ true →
+    not (has w (keys_of (filter (λ e. not (has e.0 (keys_of now))) moved))) ≡ is_some (at w now)
+left_of moved now w there =
+    ap not (sym (has_filtered (λ k. not (has k (keys_of now))) w moved))
+    ∙ ap (λ m. not (not (has w (keys_of now)) && m)) there
+    ∙ not_not (has w (keys_of now)) ∙ has_key w now

@@ -1,5 +1,7 @@
 -- Lemmas of this crate.
+pub mod CalledFacts
 pub mod EndFacts
+pub mod EntryFacts
 pub mod FollowFacts
 pub mod HoldFacts
 pub mod KeptFacts
@@ -7,6 +9,7 @@ pub mod LookFacts
 pub mod NotedFacts
 pub mod OnceFacts
 pub mod RenderSteps
-pub mod RoomFacts
 pub mod SeenFacts
 pub mod ShownFacts
+pub mod SweepFacts
+pub mod TellFacts

@@ -4,6 +4,7 @@ use Rattle.std.proofs.lemmas.Bool.{cases_Bool}
 use Rattle.frame_future.specs.Flights.{Flying, looked_at}
 use Rattle.frame_future.specs.Reads.{AreRead, ended_by, is_end, left_by}
 use Rattle.device_laws.specs.Flown.{Run, run_of, runs_of}
+use Rattle.device_laws.proofs.FramesStandFacts.{none_ended}
 
 -- runs among which one ended, and those that are left
 pub record IsWithout (runs left : List Run) (r : Run) : Type 0 where
@@ -11,19 +12,6 @@ pub record IsWithout (runs left : List Run) (r : Run) : Type 0 where
   pub behind : List Run
   pub there : runs ≡ before ++ r ∷ behind
   pub rest : left ≡ before ++ behind
-
--- where nothing ended, the runs are the same
-pub none_ended : (fs : List Flying) (reads : List ℕ) → AreRead fs reads → ended_by fs reads ≡ [] → runs_of (left_by fs reads) ≡ runs_of fs
-none_ended [] [] read none = refl
-none_ended [] (x ∷ reads) read none = absurd read
-none_ended (f ∷ fs) [] read none = absurd read
-none_ended (f ∷ fs) (x ∷ reads) read none = by (cases_Bool (is_end f x)) (none_ended fs reads read.1)
-  where
-    by : (is_end f x ≡ true) ⊎ (is_end f x ≡ false) → (ended_by fs reads ≡ [] → runs_of (left_by fs reads) ≡ runs_of fs) → runs_of (left_by (f ∷ fs) (x ∷ reads)) ≡ runs_of (f ∷ fs)
-    by (inl is) rest = let never : looked_at x f ∷ ended_by fs reads ≡ [] = sym (ap (λ b. cond b (looked_at x f ∷ ended_by fs reads) (ended_by fs reads)) is) ∙ none in absurd cc
-    by (inr is) rest =
-        ap (λ b. runs_of (cond b (left_by fs reads) (looked_at x f ∷ left_by fs reads))) is
-        ∙ ap (λ rs. run_of f ∷ rs) (rest (sym (ap (λ b. cond b (looked_at x f ∷ ended_by fs reads) (ended_by fs reads)) is) ∙ none))
 
 abbrev first_of : Flying → List Flying → Flying
 first_of d [] = d

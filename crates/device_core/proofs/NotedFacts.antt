@@ -1,23 +1,27 @@
 -- What always holds of the parts of a device holds once a flight that ended is noted.
 use Rattle.std.proofs.Common.{◌≡◌, ◌∙◌, ℕ, ◌+◌, ◌<◌, ◌==◌, ◌&&◌, ◌||◌, Bool, true, false, not, cond, List, [], ◌∷◌, ◌++◌, Option, Some, None, map, refl, sym, ap, ap₂, subst, arith}
-use Rattle.std.specs.List.{AllByRecursion}
+use Rattle.std.specs.List.{AllByRecursion, filter_map}
 use Rattle.std.specs.Map.{keys_of}
 use Rattle.std.specs.Option.{MatchOption, is_some, option_and_then, option_map, option_map_or, unwrap_or}
-use Rattle.std.proofs.Common.{length-append, ◌≤◌}
+use Rattle.std.proofs.Common.{length, length-append, ◌≤◌}
 use Rattle.dev_types.specs.Counting.{times}
-use Rattle.flight_books.specs.Kept.{cargo_at, is_of, without}
+use Rattle.flight_books.specs.Kept.{AreBooks, cargo_at, is_of, without}
+use Rattle.flight_books.proofs.SweepLaws.{fewer}
 use Rattle.flight_books.specs.declared.kept.Cargo.{Cargo}
 use Rattle.flight_books.proofs.CargoLaws.{apart}
 use Rattle.frame_future.specs.Flights.{Flying}
-use Rattle.frame_future.specs.Future.{Rising}
+use Rattle.frame_future.specs.Future.{Future, Rising}
+use Rattle.frame_future.specs.Reads.{AreSeen}
 use Rattle.frame_future.specs.declared.phase.Ended.{Ended}
 use Rattle.object_store.specs.Kept.{CountsItsObjects, Stored, number_at}
+use Rattle.object_store.specs.Ends.{notice_of}
 use Rattle.object_store.specs.Gathers.{IsLeft, buried}
 use Rattle.object_steps.specs.Resting.{Follows, IsAtRest}
 use Rattle.seq_model.specs.Histories.{History, frame_at, rendered}
 use Rattle.seq_model.specs.Legal.{Legal}
 use Rattle.seq_model.specs.Life.{has}
 use Rattle.seq_model.specs.Steps.{Past, after, change, end_flight, end_flights, is_reached_by, next_place, step, with_reach}
+use Rattle.seq_model.specs.declared.calls.Entry.TheVariants.{Closed}
 use Rattle.seq_model.specs.State.{Done, Empty, Object, State, object_at, scene_objects}
 use Rattle.seq_model.specs.Builds.{builds, is_touching}
 use Rattle.seq_model.proofs.Afters.{after_more}
@@ -29,7 +33,10 @@ use Rattle.device_laws.specs.Flown.{Flown, IsNoted, IsRun, LetsNotes, Run, note_
 use Rattle.device_laws.proofs.SweepFacts.{one_noted, tickets_of_runs}
 use Rattle.device_laws.proofs.StandingFacts.{found}
 use Rattle.device_core.specs.AllParts.{AreParts, Inside, IsLoaded, shown_by}
-use Rattle.device_core.proofs.KeptFacts.{kept_left, left_now}
+use Rattle.device_laws.specs.FramesStand.{FramesStand, without_pictures}
+use Rattle.device_laws.proofs.NoteFacts.{note_kept}
+use Rattle.device_core.specs.Standing.{IsStanding}
+use Rattle.device_core.proofs.EntryFacts.{leaves, others_loaded, parts_after, same_builds}
 use Rattle.kept_worlds.proofs.LastFacts.{stay_known}
 use Rattle.kept_worlds.proofs.NowFacts.{shown_over}
 use Rattle.world_laws.specs.Alike.{shown_of}
@@ -40,14 +47,17 @@ use Rattle.device_core.proofs.FollowFacts.{noted_follows, once, was_held}
 use Rattle.device_core.specs.Ends.{IsOwn}
 use Rattle.device_laws.proofs.FlownFacts.{middle, own_flight}
 use Rattle.device_laws.specs.Showings.{is_flight, nothing_shown, showing_at, showing_of}
-use Rattle.device_core.specs.Graves.{all_but_those, unless_dead}
-use Rattle.device_core.specs.Holds.{held_less}
+use Rattle.device_core.specs.Deaths.{all_but_those, unless_dead, untold}
+use Rattle.device_core.specs.Holds.{held_less, with_holds}
 use Rattle.kept_worlds.specs.KeptMaps.{Kept, kept_at, reach_at, shown_at}
 use Rattle.kept_worlds.specs.LastKept.{AreKept, AreShown, is_there}
-use Rattle.object_steps.proofs.Rested.{rests}
-use Rattle.seq_model.specs.Told.{gone}
+use Rattle.object_steps.proofs.Rested.{ends_told}
+use Rattle.object_steps.specs.Objects.{Objects, tellable, with_state}
+use Rattle.seq_model.specs.Told.{end_of_object, gone, status_at, told_by}
 use Rattle.device_core.proofs.LookFacts.{IsWithout}
-use Rattle.device_core.proofs.SeenFacts.{IsOver}
+use Rattle.device_core.proofs.SeenFacts.{IsOver, one_seen}
+use Rattle.device_core.proofs.TellFacts.{noted_tellable}
+use Rattle.object_steps.proofs.Tellables.{fewer_told}
 
 none_above : (t : ℕ) (ts : List ℕ) → AllByRecursion (λ u. t < u) ts → has t ts ≡ false
 none_above t [] all = refl
@@ -88,70 +98,43 @@ untouched : (stopped : Bool) (t : ℕ) (objects : List ℕ) → is_touching obje
 untouched true t objects = refl
 untouched false t objects = refl
 
--- a note reaches nothing
-reached_same : (history : History) (stopped : Bool) (t : ℕ) → (after (history ++ note stopped t ∷ [])).reached ≡ (after history).reached
-unfolding step with_reach
-reached_same history stopped t =
-    ap (λ (past : Past). past.reached) (after_more history (note stopped t))
-    ∙ ap (λ o. with_reach (next_place (after history)) o (after history).state (after history).reached) (quiet stopped t)
+-- a flight of parts of which all holds is over, with what was kept with it
+pub record IsEnding (old : Inside) (e : Ended) (c : Cargo Load) (left : List Flying) : Type 0 where
+  pub parts : AreParts old
+  pub rising : Rising (map (λ f. f.ticket) old.flights.future.flights)
+  pub over : IsOver old.flights left e c
+  pub there : cargo_at old.flights.cargo e.ticket ≡ Some c
+  pub fewer : length left + 1 ≡ length old.flights.future.flights
 
--- what is kept with the other flights is still what their renders reached and showed
-loaded_later : (history : History) (stopped : Bool) (t : ℕ) (c : Cargo Load) → IsLoaded history c → IsLoaded (history ++ note stopped t ∷ []) c
-loaded_later history stopped t c l = record {
-  early = let longer = length-append history (note stopped t ∷ []) in let was = l.early in omega (arith, was, longer);
-  reach = λ h. l.reach h ∙ ap (λ r. cond (is_reached_by r c.ticket h) 1 0) (sym (reached_same history stopped t));
-  scene = l.scene ∙ sym (scene_early history (note stopped t ∷ []) c.ticket l.early);
-  within = l.within;
+pub ending : (old : Inside) (last : ℕ) (frames looked : Future) (e : Ended) (c : Cargo Load) → AreParts old → frames ≡ old.flights.future → Rising (map (λ f. f.ticket) frames.flights) → AreBooks old.flights
+    → AreSeen last old.flights.future looked (Some e) → cargo_at old.flights.cargo e.ticket ≡ Some c → IsEnding old e c looked.flights
+ending old last frames looked e c parts is rising books seen there = record {
+  parts = parts;
+  rising = subst (λ (s : Future). Rising (map (λ f. f.ticket) s.flights)) is rising;
+  over = one_seen last old.flights looked e c books seen there;
+  there = there;
+  fewer = fewer last old.flights.future looked e seen;
 }
 
-every : (P Q : Cargo Load → Type 0) → ((c : Cargo Load) → P c → Q c) → (cs : List (Cargo Load)) → AllByRecursion P cs → AllByRecursion Q cs
-every P Q later [] all = tt
-every P Q later (c ∷ cs) all = (later c all.0, every P Q later cs all.1)
-
-others_loaded : (P Q : Cargo Load → Type 0) → ((c : Cargo Load) → P c → Q c) → (t : ℕ) (cs : List (Cargo Load)) → AllByRecursion P cs → AllByRecursion Q (without t cs)
-others_loaded P Q later t [] all = tt
-others_loaded P Q later t (c ∷ cs) all = by (is_of t c) (every P Q later cs all.1) (others_loaded P Q later t cs all.1)
-  where
-    by : (b : Bool) → AllByRecursion Q cs → AllByRecursion Q (without t cs) → AllByRecursion Q (cond b cs (c ∷ without t cs))
-    by true same rest = same
-    by false same rest = (later c all.0, rest)
-
--- a note prepares no world
-same_builds : (history : History) (stopped : Bool) (t : ℕ) → builds (history ++ note stopped t ∷ []) ≡ builds history
-same_builds history stopped t =
-    builds_more history (note stopped t)
-    ∙ ap (λ o. builds history + cond (option_map_or (λ w. wants_build (last_use history w)) (option_and_then (world_of (after history).state) o) false) 1 0) (quiet stopped t)
-    ∙ plus_none (builds history)
-  where
-    plus_none : (n : ℕ) → n + 0 ≡ n
-    plus_none n = omega arith
-
--- a note leaves the keys of the objects
-same_keys : (place : ℕ) (stopped : Bool) (t : ℕ) (s : State) → keys_of (change place (note stopped t) s).objects ≡ keys_of s.objects
-unfolding change end_flights
-same_keys place true t s = keys_keyed (λ _ o. end_flight t Empty o) s.objects
-same_keys place false t s = keys_keyed (λ _ o. end_flight t (Done t) o) s.objects
-
--- the flight that is over, of parts of which all holds
-module _ (old : Inside) (e : Ended) (c : Cargo Load) (left : List Flying) (p : AreParts old) (rising : Rising (map (λ f. f.ticket) old.flights.future.flights))
-    (over : IsOver old.flights left e c) (found_ : cargo_at old.flights.cargo e.ticket ≡ Some c) where
+module _ (old : Inside) (e : Ended) (c : Cargo Load) (left : List Flying) (x : IsEnding old e c left) where
   pub noted : IsNoted (old.history ++ note e.left e.ticket ∷ []) (runs_of left)
-  noted = end_noted old.history old.flights.future.flights left p.rest.legal p.lets p.flown rising e over.run over.without over.ticket over.stopped
+  noted = end_noted old.history old.flights.future.flights left x.parts.rest.legal x.parts.lets x.parts.flown x.rising e x.over.run x.over.without x.over.ticket x.over.stopped
 
   pub reached : (h : ℕ) → times h c.kept.reach.items ≡ once old.history e.ticket h
-  reached h = (found (IsLoaded old.history) (is_of e.ticket) old.flights.cargo c p.loaded found_).0.reach h ∙ ap (λ t. once old.history t h) over.cargo
+  reached h = (found (IsLoaded old.history) (is_of e.ticket) old.flights.cargo c x.parts.loaded x.there).0.reach h ∙ ap (λ t. once old.history t h) x.over.cargo
 
   -- it holds what it reached
-  pub holds_it : (h : ℕ) → times h c.kept.reach.items ≤ number_at old.objects.holds h
-  holds_it = was_held old.objects old.history e.left e.ticket c.kept.reach.items p.rest noted.legal reached
+  pub holds_it : (h : ℕ) → times h c.kept.reach.items ≤ number_at old.objects.stored.holds h
+  holds_it = was_held old.objects.stored old.history e.left e.ticket c.kept.reach.items x.parts.rest noted.legal reached
 
   -- and no frame but its own is in flight with its ticket
-  pub own_frame : IsOwn old.objects.state e.ticket c.frame
+  pub own_frame : IsOwn old.objects.stored.state e.ticket c.frame
   own_frame k flies =
       let mine : frame_at old.history e.ticket ≡ Some k = own_flight old.history e.ticket k (sym (shown_phase (object_at (after old.history).state k))
-      ∙ ap (λ (s : State). is_flight e.ticket (showing_at s k).phase) (sym p.rest.state) ∙ flies) in
-      let runs : IsRun old.history over.run = middle (IsRun old.history) over.without.before over.run over.without.behind (subst (AllByRecursion (IsRun old.history)) over.without.there p.flown.each) in
-      some_is (sym mine ∙ ap (frame_at old.history) (sym over.ticket) ∙ runs.frame) ∙ over.frame
+      ∙ ap (λ (s : State). is_flight e.ticket (showing_at s k).phase) (sym x.parts.rest.state) ∙ flies) in
+      let runs : IsRun old.history x.over.run =
+      middle (IsRun old.history) x.over.without.before x.over.run x.over.without.behind (subst (AllByRecursion (IsRun old.history)) x.over.without.there x.parts.flown.each) in
+      some_is (sym mine ∙ ap (frame_at old.history) (sym x.over.ticket) ∙ runs.frame) ∙ x.over.frame
     where
       shown_phase : (o : Option Object) → is_flight e.ticket (option_map_or showing_of o nothing_shown).phase ≡ is_flight e.ticket (option_map_or (λ o. o.phase) o Empty)
       shown_phase None = refl
@@ -160,70 +143,70 @@ module _ (old : Inside) (e : Ended) (c : Cargo Load) (left : List Flying) (p : A
       some_is : {k f : ℕ} → Some k ≡ Some f → k ≡ f
       some_is {k} same = ap (λ o. unwrap_or o k) same
 
-  -- with the note the store is one entry further
-  pub follows : (moved : Stored)
-      → moved ≡ record old.objects { state = change (next_place (after old.history)) (note e.left e.ticket) old.objects.state; holds = held_less c.kept.reach.items old.objects.holds }
-      → Follows moved old.history (note e.left e.ticket)
-  follows moved moves = subst (λ s. Follows s old.history (note e.left e.ticket)) (sym moves)
-      (noted_follows old.objects old.history e.left e.ticket c.kept.reach.items p.rest noted.legal reached)
+  -- the objects once its end is noted, and it holds nothing any more
+  abbrev pub moved : Objects
+  moved = with_holds (with_state old.objects (change (next_place (after old.history)) (note e.left e.ticket) old.objects.stored.state))
+      (held_less c.kept.reach.items old.objects.stored.holds)
+
+  -- are one entry further
+  pub follows : Follows moved.stored old.history (note e.left e.ticket)
+  follows = noted_follows old.objects.stored old.history e.left e.ticket c.kept.reach.items x.parts.rest noted.legal reached
+
+no_close : (stopped : Bool) (t : ℕ) → note stopped t ≡ Closed → ⊥
+no_close true t same = absurd cc
+no_close false t same = absurd cc
+
+no_status : (stopped : Bool) (t : ℕ) → status_at (note stopped t) ≡ []
+no_status true t = refl
+no_status false t = refl
 
 -- all that holds of the parts holds once the end of a flight is noted, and what nothing holds any more is gone
-module _ (old new : Inside) (e : Ended) (c : Cargo Load) (left : List Flying) (moved : Stored) (dead : List ℕ) (p : AreParts old) (rising : Rising (map (λ f. f.ticket) old.flights.future.flights))
-    (over : IsOver old.flights left e c) (found_ : cargo_at old.flights.cargo e.ticket ≡ Some c)
-    (moves : moved ≡ record old.objects { state = change (next_place (after old.history)) (note e.left e.ticket) old.objects.state; holds = held_less c.kept.reach.items old.objects.holds })
-    (counted_moved : CountsItsObjects moved) (counted : CountsItsObjects new.objects) (is_left : IsLeft moved new.objects) (is_buried : new.objects.state ≡ buried moved)
-    (dies : dead ≡ keys_of (gone moved.state new.objects.state))
+module _ (old new : Inside) (e : Ended) (c : Cargo Load) (left : List Flying) (x : IsEnding old e c left)
+    (counted_moved : CountsItsObjects (moved old e c left x).stored) (counted : CountsItsObjects new.objects.stored)
+    (is_left : IsLeft (moved old e c left x).stored new.objects.stored) (is_buried : new.objects.stored.state ≡ buried (moved old e c left x).stored)
+    (departed : new.objects.departed ≡ keys_of (gone (moved old e c left x).stored.state new.objects.stored.state))
     (grown : new.history ≡ old.history ++ note e.left e.ticket ∷ []) (flights : new.flights.future.flights ≡ left) (cargo : new.flights.cargo ≡ without e.ticket old.flights.cargo)
-    (forgotten : (w : ℕ) → kept_at new.worlds w ≡ unless_dead dead w (kept_at old.worlds w))
-    (known : (history : History) (there : ℕ → Bool) → AreKept there history (reach_at old.worlds) → AreKept (all_but_those dead there) history (reach_at new.worlds))
-    (same : new.builds ≡ old.builds) where
+    (forgotten : (w : ℕ) → kept_at new.worlds w ≡ unless_dead new.objects.departed w (kept_at old.worlds w))
+    (known : (history : History) (there : ℕ → Bool) → AreKept there history (reach_at old.worlds) → AreKept (all_but_those new.objects.departed there) history (reach_at new.worlds))
+    (same : new.builds ≡ old.builds) (room : new.room ≡ old.room) where
   ends : IsNoted (old.history ++ note e.left e.ticket ∷ []) (runs_of left)
-  ends = noted old e c left p rising over found_
+  ends = noted old e c left x
 
-  pub rests_after : IsAtRest new.objects (old.history ++ note e.left e.ticket ∷ [])
-  rests_after = rests old.history (note e.left e.ticket) moved (follows old e c left p rising over found_ moved moves) new.objects counted_moved counted is_left is_buried
-
-  moved_keys : keys_of moved.state.objects ≡ keys_of (after old.history).state.objects
-  moved_keys = ap (λ (s : Stored). keys_of s.state.objects) moves ∙ same_keys (next_place (after old.history)) e.left e.ticket old.objects.state
-      ∙ ap (λ (s : State). keys_of s.objects) p.rest.state
-
-  left_there : (w : ℕ) → (not (has w dead) && is_there old.history w) ≡ is_there (old.history ++ note e.left e.ticket ∷ []) w
-  left_there w =
-      ap (λ ks. not (has w ks) && is_there old.history w) dies
-      ∙ left_now (after old.history).state.objects moved.state.objects new.objects.state.objects w moved_keys is_left.kept
-      ∙ ap (λ (s : State). is_some (object_at s w)) rests_after.state
-
-  kept_after : AreKept (is_there (old.history ++ note e.left e.ticket ∷ [])) (old.history ++ note e.left e.ticket ∷ []) (reach_at new.worlds)
-  kept_after = kept_left (is_there old.history) (is_there (old.history ++ note e.left e.ticket ∷ [])) dead (old.history ++ note e.left e.ticket ∷ []) (reach_at new.worlds) left_there
-      (known (old.history ++ note e.left e.ticket ∷ []) (is_there old.history)
+  pub noted_parts : AreParts new
+  noted_parts = parts_after old new (note e.left e.ticket) (moved old e c left x).stored old.worlds x.parts (no_close e.left e.ticket)
+      (follows old e c left x) counted_moved counted is_left is_buried departed grown
+      (subst (λ fs. Flown (old.history ++ note e.left e.ticket ∷ []) (runs_of fs)) (sym flights) ends.flown)
+      (subst (AllByRecursion (IsLoaded (old.history ++ note e.left e.ticket ∷ []))) (sym cargo)
+      (others_loaded old.history (note e.left e.ticket) e.ticket old.flights.cargo x.parts.loaded))
+      ends.lets
       (stay_known old.history (note e.left e.ticket) (is_there old.history) (reach_at old.worlds) (ap (option_and_then (world_of (after old.history).state)) (quiet e.left e.ticket))
-      (untouched e.left e.ticket) p.kept))
+      (untouched e.left e.ticket) x.parts.kept)
+      x.parts.shown forgotten known
+      (same ∙ x.parts.built ∙ sym (same_builds old.history (note e.left e.ticket) (quiet e.left e.ticket)))
+      (let was = x.parts.places in let longer = ap length grown ∙ length-append old.history (note e.left e.ticket ∷ []) in let less = ap length flights in
+      let one = x.fewer in
+      omega (arith, was, longer, less, one, room))
 
-  shown_still : AreShown old.history (shown_at shown_by new.worlds)
-  shown_still w = subst (λ k. MatchOption (option_map (λ k. shown_by k.value) k) (Unit {0}) (λ kept. kept ≡ shown_of (scene_objects (after old.history).state) w)) (sym (forgotten w))
-      (by (has w dead))
-    where
-      by : (b : Bool) → MatchOption (option_map (λ k. shown_by k.value) (cond b None (kept_at old.worlds w))) (Unit {0}) (λ kept. kept ≡ shown_of (scene_objects (after old.history).state) w)
-      by true = tt
-      by false = p.shown w
+  -- who died is told, and nobody else
+  pub noted_told : filter_map notice_of new.objects.dead ≡ filter_map end_of_object (gone (moved old e c left x).stored.state new.objects.stored.state)
+      → filter_map notice_of new.objects.dead ≡ told_by (after old.history) (note e.left e.ticket)
+  noted_told notices = notices ∙ sym (ends_told old.history (note e.left e.ticket) (moved old e c left x).stored (follows old e c left x) new.objects.stored.state is_buried (no_close e.left e.ticket)
+      ∙ ap (λ status. status ++ filter_map end_of_object (gone (moved old e c left x).stored.state new.objects.stored.state)) (no_status e.left e.ticket))
 
-  both : (w : ℕ) → is_some (shown_at shown_by new.worlds w) ≡ true → is_some (reach_at new.worlds w) ≡ true
-  both w = by (kept_at new.worlds w)
-    where
-      by : (o : Option (Kept World)) → is_some (option_map (λ k. shown_by k.value) o) ≡ true → is_some (option_map (λ k. k.reach) o) ≡ true
-      by None some = some
-      by (Some k) some = refl
+  -- with those that are left there are no more to be told than before
+  pub noted_fewer : filter_map notice_of new.objects.dead ≡ filter_map end_of_object (gone (moved old e c left x).stored.state new.objects.stored.state)
+      → tellable new.objects.stored.state + untold new.objects ≡ tellable old.objects.stored.state
+  noted_fewer notices =
+      let parts = fewer_told (moved old e c left x).stored new.objects.stored is_left in
+      let dead = ap length notices in
+      let same_ = noted_tellable (next_place (after old.history)) e.left e.ticket old.objects.stored.state in
+      omega (arith, parts, dead, same_)
 
-  pub parts_after : AreParts new
-  parts_after = record {
-    rest = subst (IsAtRest new.objects) (sym grown) rests_after;
-    flown = subst (λ fs. Flown new.history (runs_of fs)) (sym flights) (subst (λ h. Flown h (runs_of left)) (sym grown) ends.flown);
-    loaded = subst (AllByRecursion (IsLoaded new.history)) (sym cargo)
-        (subst (λ h. AllByRecursion (IsLoaded h) (without e.ticket old.flights.cargo)) (sym grown)
-        (others_loaded (IsLoaded old.history) (IsLoaded (old.history ++ note e.left e.ticket ∷ [])) (loaded_later old.history e.left e.ticket) e.ticket old.flights.cargo p.loaded));
-    lets = subst LetsNotes (sym grown) ends.lets;
-    kept = subst (λ h. AreKept (is_there h) h (reach_at new.worlds)) (sym grown) kept_after;
-    shown = subst (λ h. AreShown h (shown_at shown_by new.worlds)) (sym grown)
-        (shown_over old.history (note e.left e.ticket) (reach_at new.worlds) (shown_at shown_by new.worlds) ends.legal kept_after both shown_still);
-    built = same ∙ p.built ∙ sym (same_builds old.history e.left e.ticket) ∙ ap builds (sym grown);
-  }
+  -- and the frames stand on
+  pub noted_stands : (last : ℕ) (looked : Future) → AreSeen last old.flights.future looked (Some e) → new.flights.future ≡ without_pictures looked new.objects.departed
+      → IsStanding old → IsStanding new
+  noted_stands last looked seen frames stands =
+      subst (λ h. FramesStand h new.flights.future) (sym grown) (subst (FramesStand (old.history ++ note e.left e.ticket ∷ [])) (sym frames)
+      (note_kept old.history last old.flights.future looked e new.objects.departed x.parts.rest.legal x.rising x.parts.flown seen
+      (leaves old.history (note e.left e.ticket) (moved old e c left x).stored new.objects.stored new.objects.departed (no_close e.left e.ticket) (follows old e c left x)
+      counted_moved counted is_left is_buried departed) stands))

@@ -1,7 +1,7 @@
 -- A flight that a look showed to be over, with what was kept with it, and the runs that are left.
-use Rattle.std.proofs.Common.{◌≡◌, ◌∙◌, ℕ, Bool, false, List, [], ◌∷◌, ◌++◌, Option, Some, None, refl, sym, ap, subst}
+use Rattle.std.proofs.Common.{◌≡◌, ◌∙◌, ℕ, Bool, false, List, [], ◌∷◌, ◌++◌, Option, Some, None, length, refl, sym, ap, subst}
 use Rattle.std.specs.Option.{IsSomeAnd}
-use Rattle.std.proofs.lemmas.List.{append_assoc, map-append}
+use Rattle.std.proofs.lemmas.List.{append_assoc, length-map, map-append}
 use Rattle.flight_books.specs.Kept.{AreBooks, Books, IsBooked, cargo_at}
 use Rattle.flight_books.specs.declared.kept.Cargo.{Cargo}
 use Rattle.flight_books.proofs.PairLaws.{ticket_booked}
@@ -10,7 +10,8 @@ use Rattle.frame_future.specs.Future.{Future, flight_at}
 use Rattle.frame_future.specs.Reads.{AreSeen, ended_by, left_by}
 use Rattle.frame_future.specs.declared.phase.Ended.{Ended}
 use Rattle.device_laws.specs.Flown.{Run, run_of, runs_of}
-use Rattle.device_core.proofs.LookFacts.{IsWithout, none_ended, one_ended}
+use Rattle.device_laws.proofs.FramesStandFacts.{none_ended, three}
+use Rattle.device_core.proofs.LookFacts.{IsWithout, one_ended}
 
 -- more runs before and behind
 wider : (runs left : List Run) (r : Run) (passed more : List Run) → IsWithout runs left r → IsWithout (passed ++ (runs ++ more)) (passed ++ (left ++ more)) r
@@ -28,9 +29,6 @@ ticket_first (f ∷ fs) = f.ticket
 abbrev stopped_first : List Flying → Bool
 stopped_first [] = false
 stopped_first (f ∷ fs) = is_stopped f
-
-three : (passed seen behind : List Flying) → runs_of (passed ++ (seen ++ behind)) ≡ runs_of passed ++ (runs_of seen ++ runs_of behind)
-three passed seen behind = map-append run_of passed (seen ++ behind) ∙ ap (λ rs. runs_of passed ++ rs) (map-append run_of seen behind)
 
 -- a look that showed no end leaves the runs
 pub none_seen : (after : ℕ) (old new : Future) → AreSeen after old new None → runs_of new.flights ≡ runs_of old.flights
@@ -73,3 +71,7 @@ one_seen {T} after old new e c books s is = by (flight_at old.future e.ticket) r
           frame = sym booked.frame;
           cargo = booked.ticket ∙ same ∙ sym over.3;
         }
+
+-- as many runs are as many flights
+pub seen_count : (old new : Future) → runs_of new.flights ≡ runs_of old.flights → length new.flights ≡ length old.flights
+seen_count old new same = sym (length-map new.flights run_of) ∙ ap length same ∙ length-map old.flights run_of

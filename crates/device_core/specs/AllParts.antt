@@ -1,5 +1,5 @@
 -- What contracts see of the parts of a device, and what always holds of them.
-use Rattle.std.specs.Prelude.{◌≡◌, ◌≤◌, ℕ, length, if◌then◌else◌}
+use Rattle.std.specs.Prelude.{◌≡◌, ◌<◌, ◌≤◌, ◌+◌, ℕ, length, if◌then◌else◌}
 use Rattle.std.specs.List.{AllByRecursion}
 use Rattle.dev_types.specs.Counting.{times}
 use Rattle.flight_books.specs.Kept.{Books}
@@ -7,7 +7,7 @@ use Rattle.flight_books.specs.declared.kept.Cargo.{Cargo}
 use Rattle.fx_math.specs.declared.scene.Scene.{Scene}
 use Rattle.kept_worlds.specs.KeptMaps.{Worlds, reach_at, shown_at}
 use Rattle.kept_worlds.specs.LastKept.{AreKept, AreShown, is_there}
-use Rattle.object_store.specs.Kept.{Stored}
+use Rattle.object_steps.specs.Objects.{Objects}
 use Rattle.object_steps.specs.Resting.{IsAtRest}
 use Rattle.picture_model.specs.Limits.{IsSceneWithin}
 use Rattle.seq_model.specs.Builds.{builds}
@@ -23,7 +23,7 @@ use Rattle.device_core.specs.declared.loads.Load.{Load}
 -- the objects, the flights with what is kept of each, the worlds that are kept, all that happened,
 -- for how many entries there is room, and how many worlds were prepared
 pub record Inside : Type 0 where
-  pub objects : Stored
+  pub objects : Objects
   pub flights : Books Load
   pub worlds : Worlds World
   pub history : History
@@ -49,13 +49,14 @@ pub record IsLoaded (history : History) (c : Cargo Load) : Type 0 where
 
 -- What always holds: the objects rest where the history led, the flights are those of the history,
 -- each loaded as at its render, and a note may follow; exactly the worlds are kept that are there
--- and untouched since their last render, each as it would be prepared now; and the builds are
--- counted
+-- and untouched since their last render, each as it would be prepared now; the builds are counted;
+-- and there is room for the note of each flight, and for one entry more
 pub record AreParts (i : Inside) : Type 0 where
-  pub rest : IsAtRest i.objects i.history
+  pub rest : IsAtRest i.objects.stored i.history
   pub flown : Flown i.history (runs_of i.flights.future.flights)
   pub loaded : AllByRecursion (IsLoaded i.history) i.flights.cargo
   pub lets : LetsNotes i.history
   pub kept : AreKept (is_there i.history) i.history (reach_at i.worlds)
   pub shown : AreShown i.history (shown_at shown_by i.worlds)
   pub built : i.builds ≡ builds i.history
+  pub places : length i.history + length i.flights.future.flights < i.room

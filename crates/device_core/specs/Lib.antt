@@ -1,7 +1,10 @@
 -- What the clauses of this crate cite.
 pub mod Ends
-pub mod Graves
 pub mod Holds
 pub mod AllParts
+pub mod Deaths
+pub mod Standing
 pub mod Notes
+pub mod Calls
 pub mod Renders
+pub mod Sweeps

@@ -3,15 +3,16 @@
 #![tactic(auto)]
 
 mod burials;
+mod calls;
 mod ends;
-mod graves;
 mod holds;
 mod loads;
 mod notes;
 mod parts;
+mod records;
 mod renders;
+mod sweeps;
 
-pub use graves::Grave;
 pub use loads::Load;
 pub use parts::Parts;
 pub use renders::{Build, NewLoad, keep_build, load_of};

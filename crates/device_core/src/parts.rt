@@ -1,11 +1,13 @@
 //! The parts of a device between two entries.
-ghost use Rattle.std.specs.Prelude.{◌≡◌, []};
+ghost use Rattle.std.specs.Prelude.{◌≡◌, [], IfOk};
 ghost use Rattle.frame_future.specs.Future.{nothing};
+ghost use Rattle.device_core.specs.Standing.{IsStanding};
 
 use crate::loads::Load;
+use dev_types::NoMemory;
 use flight_books::FlightBooks;
 use kept_worlds::KeptWorlds;
-use object_store::store::Store;
+use object_steps::ObjectStore;
 use seq_model::Entry;
 use std::alloc::Global;
 use std::marker::Model;
@@ -14,7 +16,7 @@ use world_snapshot::Prepared;
 /// The objects, the flights and the kept worlds of a device, and all that happened.
 #[derive(Drop)]
 pub struct Parts {
-    pub(crate) objects: Store,
+    pub(crate) objects: ObjectStore,
     pub(crate) flights: FlightBooks<Load>,
     pub(crate) worlds: KeptWorlds<Prepared>,
     pub(crate) journal: Vec<Entry>,
@@ -47,17 +49,24 @@ impl Model for Parts {
 }
 
 impl Parts {
-    /// The parts of a device on which nothing happened. Takes no memory.
-    pub fn new(alloc: Global) -> Parts
-        ensures history { result.history ≡ [] }
-        ensures flights { result.flights.future ≡ nothing }
+    /// The parts of a device on which nothing happened.
+    ///
+    /// # Errors
+    /// `NoMemory`.
+    pub fn new(alloc: Global) -> Result<Parts, NoMemory>
+        ensures history { IfOk result (λ parts. parts.history ≡ []) }
+        ensures objects { IfOk result (λ parts. parts.objects.dead ≡ []) }
+        ensures flights { IfOk result (λ parts. parts.flights.future ≡ nothing) }
+        ensures stands { IfOk result IsStanding }
     {
-        Parts {
-            objects: Store::new(alloc),
+        let mut journal = Vec::new(alloc);
+        journal.reserve(1)?;
+        Ok(Parts {
+            objects: ObjectStore::new(alloc),
             flights: FlightBooks::new(alloc),
             worlds: KeptWorlds::new(alloc),
-            journal: Vec::new(alloc),
+            journal,
             builds: 0,
-        }
+        })
     }
 }

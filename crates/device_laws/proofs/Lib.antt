@@ -1,12 +1,16 @@
 pub mod BurialFacts
+pub mod CallFacts
 pub mod ChangeFacts
 pub mod FlightFacts
 pub mod FlightSteps
 pub mod FlownFacts
 pub mod FrameFacts
+pub mod FramesStandFacts
 pub mod FutureFacts
 pub mod LentFacts
+pub mod LoanFacts
 pub mod LoanSteps
+pub mod NoteFacts
 pub mod PhaseFacts
 pub mod ReachFacts
 pub mod RenderFacts

@@ -91,13 +91,13 @@ renders_stay history further future flown standing renders = record {
 }
 
 -- what a sweep leaves and what it ends
-abbrev FlightShows : History → Flying → Type 0
+abbrev pub FlightShows : History → Flying → Type 0
 FlightShows history f = ShowsRender history f.ticket (key_at f) f.channels
 
-abbrev PictureShows : History → Finished → Type 0
+abbrev pub PictureShows : History → Finished → Type 0
 PictureShows history p = ShowsRender history p.ticket p.key p.channels
 
-left_show : (history : History) (fs : List Flying) (reads : List ℕ) → AllByRecursion (FlightShows history) fs →
+pub left_show : (history : History) (fs : List Flying) (reads : List ℕ) → AllByRecursion (FlightShows history) fs →
     AllByRecursion (FlightShows history) (left_by fs reads) × AllByRecursion (PictureShows history) (pictures_of (ended_by fs reads))
 left_show history [] reads all = (tt, tt)
 left_show history (f ∷ fs) [] all = (tt, tt)

@@ -123,7 +123,7 @@ others_stand history e left runs pictures none leaves standing =
     (there_if (after history) h t (inl was), standing.done h t was)))
 
 -- an entry that puts a frame into a phase without a picture
-flip : (a b : ℕ) (c : Bool) → (a == b) ≡ c → (b == a) ≡ c
+pub flip : (a b : ℕ) (c : Bool) → (a == b) ≡ c → (b == a) ≡ c
 flip a b true is = eq-eqb b a (sym (eqb-true a b is))
 flip a b false is = by (b == a) refl
   where

@@ -25,7 +25,7 @@ use Rattle.device_laws.proofs.FlownFacts.{middle, run_over, weaker, without_midd
 use Rattle.device_laws.specs.Flown.{Flown, IsNoted, IsRun, LetsNotes, Run, note_of_run, run_of, runs_of, tickets_in}
 
 -- each number stands once
-abbrev AreApart : List ℕ → Type 0
+abbrev pub AreApart : List ℕ → Type 0
 AreApart [] = ⊤
 AreApart (t ∷ ts) = (has t ts ≡ false) × AreApart ts
 
@@ -37,7 +37,7 @@ above t (u ∷ ts) all = by (u == t) refl (above t ts all.1)
     by false is rest = rest
     by true is rest = let same : u ≡ t = eqb-true u t is in absurd (omega (arith, all.0, same))
 
-rising_apart : (ts : List ℕ) → Rising ts → AreApart ts
+pub rising_apart : (ts : List ℕ) → Rising ts → AreApart ts
 rising_apart [] rising = tt
 rising_apart (t ∷ ts) rising = (above t ts rising.0, rising_apart ts rising.1)
 
@@ -49,7 +49,7 @@ none_of true b is = absurd cc
 none_of false b is = (refl, is)
 
 -- without the one in the midst, which the others are apart from
-apart_middle : (xs : List ℕ) (t : ℕ) (ys : List ℕ) → AreApart (xs ++ t ∷ ys) → (has t (xs ++ ys) ≡ false) × AreApart (xs ++ ys)
+pub apart_middle : (xs : List ℕ) (t : ℕ) (ys : List ℕ) → AreApart (xs ++ t ∷ ys) → (has t (xs ++ ys) ≡ false) × AreApart (xs ++ ys)
 apart_middle [] t ys apart = apart
 apart_middle (x ∷ xs) t ys apart = by (apart_middle xs t ys apart.1)
   where

@@ -1,6 +1,7 @@
 pub mod Changing
 pub mod FlightMoves
 pub mod Flown
+pub mod FramesStand
 pub mod Lent
 pub mod Renders
 pub mod SameFrames

@@ -7,6 +7,7 @@ mod flight_laws;
 mod frame_laws;
 mod loan_laws;
 mod render_laws;
+mod standing_laws;
 
 pub use entry_laws::{
     burials_end_an_entry, burials_leave_what_lives, calls_change_the_objects, entries_move_flights,
@@ -20,3 +21,7 @@ pub use flight_laws::{
 pub use frame_laws::{calls_on_kept_frames_leave_them, same_frames_stand_alike};
 pub use loan_laws::{kept_loans_are_those_of_the_history, mapped_frames_have_pictures};
 pub use render_laws::flights_show_their_renders;
+pub use standing_laws::{
+    frames_stand_between_entries, frames_stand_on_by_a_call, frames_stand_on_by_a_loan,
+    frames_stand_on_by_a_note,
+};

@@ -4,7 +4,7 @@ use Rattle.std.specs.List.{find, position}
 use Rattle.std.proofs.lemmas.List.Folds.{find-append}
 use Rattle.std.specs.Option.{option_map_or, option_or, IsSomeAnd}
 use Rattle.frame_future.specs.Flights.{Flying, is_stopped}
-use Rattle.frame_future.specs.Future.{Finished, Future, flight_of, is_flight_of, is_lent, is_mapped, is_picture_of, phase_by, phase_of, replaced, shown_by}
+use Rattle.frame_future.specs.Future.{Finished, Future, flight_of, is_flight_of, is_lent, asked_by, is_mapped, is_picture_of, phase_by, phase_of, replaced, shown_by}
 use Rattle.frame_future.specs.declared.phase.Phase.TheVariants as phase
 use Rattle.frame_future.proofs.Lists.{found_first}
 
@@ -25,6 +25,12 @@ phase_done s frame p none is = (λ i. phase_by (none i) (is i))
 
 pub phase_empty : (s : Future) (frame : ℕ) → flight_of s frame ≡ None → shown_by s frame ≡ None → phase_of s frame ≡ phase.Empty
 phase_empty s frame none gone = (λ i. phase_by (none i) (gone i))
+
+pub asked_some : (s : Future) (frame : ℕ) (p : Finished) → shown_by s frame ≡ Some p → asked_by s frame ≡ p.channels
+asked_some s frame p shown = ap (λ o. option_map_or (λ (p : Finished). p.channels) o (false ∷ false ∷ false ∷ false ∷ [])) shown
+
+pub asked_none : (s : Future) (frame : ℕ) → shown_by s frame ≡ None → asked_by s frame ≡ false ∷ false ∷ false ∷ false ∷ []
+asked_none s frame shown = ap (λ o. option_map_or (λ (p : Finished). p.channels) o (false ∷ false ∷ false ∷ false ∷ [])) shown
 
 pub mapped_some : (s : Future) (frame : ℕ) (p : Finished) → shown_by s frame ≡ Some p → is_mapped s frame ≡ is_lent p
 mapped_some s frame p is = ap (λ o. option_map_or is_lent o false) is

@@ -78,6 +78,10 @@ is_lent p = list_any is_some p.loans
 abbrev pub is_mapped : Future → ℕ → Bool
 is_mapped s frame = option_map_or is_lent (shown_by s frame) false
 
+-- which channels a frame asked for when its picture was rendered
+abbrev pub asked_by : Future → ℕ → List Bool
+asked_by s frame = option_map_or (λ p. p.channels) (shown_by s frame) (false ∷ false ∷ false ∷ false ∷ [])
+
 -- the list with another element in the place of the first that passes, and without it
 abbrev pub replaced : {X : Type 0} → (X → Bool) → X → List X → List X
 replaced p new [] = []

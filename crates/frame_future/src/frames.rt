@@ -6,7 +6,7 @@ ghost use Rattle.tile_claims.specs.Seats.{key_of, view};
 ghost use Rattle.frame_future.specs.Ends.{NoneEnds, Ends, EndsAt, AreAlike, IsAlike, IsLast, StayOpen, StaysOpen};
 ghost use Rattle.frame_future.specs.Reads.{AreSeen};
 ghost use Rattle.frame_future.specs.Flights.{Flying, key_at, awaited, away, back, begun, IsNew, IsOfFlight, IsSound, IsWorked};
-ghost use Rattle.frame_future.specs.Future.{Future, nothing, is_flight_of, is_picture_of, has_ticket, refusal_of_picture, flight_of, flight_at, shown_by, phase_of, is_mapped, with_flight, with_flight_at, with_picture, without_picture, refusal_of_map, lent_as, given_back, loan_ended, loan_from, IsKept, IsLater, AreHome, IsCount, IsDiscarded, IsHandout, IsOut};
+ghost use Rattle.frame_future.specs.Future.{Future, nothing, is_flight_of, is_picture_of, has_ticket, refusal_of_picture, flight_of, flight_at, shown_by, phase_of, is_mapped, asked_by, with_flight, with_flight_at, with_picture, without_picture, refusal_of_map, lent_as, given_back, loan_ended, loan_from, IsKept, IsLater, AreHome, IsCount, IsDiscarded, IsHandout, IsOut};
 ghost use Rattle.frame_future.specs.declared.phase.Phase.TheVariants as phase;
 ghost use Rattle.frame_future.specs.Pixels.{IsSized};
 ghost use Rattle.tile_claims.specs.Parts.{tiles_of};
@@ -183,6 +183,16 @@ impl Frames {
         match self.picture_of(frame) {
             Some(place) => self.pictures[place].is_lent(),
             None => false,
+        }
+    }
+
+    /// Which channels the frame asked for when its picture was rendered, in the order of `Channel`; none where it has no picture.
+    pub fn asked(&self, frame: Handle) -> [bool; 4]
+        ensures { result ≡ asked_by self.now frame }
+    {
+        match self.picture_of(frame) {
+            Some(place) => self.pictures[place].channels(),
+            None => [false, false, false, false],
         }
     }
 

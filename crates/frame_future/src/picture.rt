@@ -62,6 +62,13 @@ impl Picture {
         self.ticket
     }
 
+    /// Which channels its frame asked for.
+    pub(crate) fn channels(&self) -> [bool; 4]
+        ensures { result ≡ self.now.channels }
+    {
+        self.channels
+    }
+
     pub(crate) fn frame(&self) -> Handle
         ensures { result ≡ self.now.frame }
     {

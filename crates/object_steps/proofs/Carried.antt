@@ -164,7 +164,7 @@ module _ (s : Stored) (history : History) (rest : IsAtRest s history) where
   suited : (call : Call) (r : Reply) → answer (after history) call ≡ Some r → Suits s.state call r
   suited call r is = kept (λ st. Suits st call r) (suits (after history) call r led is)
 
-  carries : (call : Call) (r : Reply) → (refusal (after history) call ≡ None) → length history < 2 ^ 63 → HasRoom s call → IsOfObjects call → answer (after history) call ≡ Some r →
+  carries : (call : Call) (r : Reply) → (refusal (after history) call ≡ None) → length history < 2 ^ 63 → HasRoom s call → IsOfObjects call r → answer (after history) call ≡ Some r →
       is_content_sound (after history) call ≡ true → CanCarry s call r
   unfolding refusals_of
   carries (NewObject t subtype) (reply.Made made) none short room objects is content =
@@ -211,20 +211,20 @@ module _ (s : Stored) (history : History) (rest : IsAtRest s history) where
   denied_carries (NewObject t subtype) refused = tt
   denied_carries _ refused = tt
 
-  pub can_carry : (call : Call) (r : Reply) → length history < 2 ^ 63 → HasRoom s call → IsOfObjects call → answer (after history) call ≡ Some r → is_content_sound (after history) call ≡ true → CanCarry s call r
+  pub can_carry : (call : Call) (r : Reply) → length history < 2 ^ 63 → HasRoom s call → IsOfObjects call r → answer (after history) call ≡ Some r → is_content_sound (after history) call ≡ true → CanCarry s call r
   can_carry call r short room objects is content = by r refl is
     where
       by : (x : Reply) → x ≡ r → answer (after history) call ≡ Some x → CanCarry s call x
       by (reply.Denied refused) same is = denied_carries call refused
-      by reply.Done same is = carries call reply.Done (not_refused (after history) call reply.Done (λ refused same. cc) is) short room objects is content
-      by (reply.Made made) same is = carries call (reply.Made made) (not_refused (after history) call (reply.Made made) (λ refused same. cc) is) short room objects is content
-      by (reply.Lent number) same is = carries call (reply.Lent number) (not_refused (after history) call (reply.Lent number) (λ refused same. cc) is) short room objects is content
+      by reply.Done same is = carries call reply.Done (not_refused (after history) call reply.Done (λ refused same. cc) is) short room (subst (IsOfObjects call) (sym same) objects) is content
+      by (reply.Made made) same is = carries call (reply.Made made) (not_refused (after history) call (reply.Made made) (λ refused same. cc) is) short room (subst (IsOfObjects call) (sym same) objects) is content
+      by (reply.Lent number) same is = carries call (reply.Lent number) (not_refused (after history) call (reply.Lent number) (λ refused same. cc) is) short room (subst (IsOfObjects call) (sym same) objects) is content
       by (reply.Mapped width height t rows) same is =
-          carries call (reply.Mapped width height t rows) (not_refused (after history) call (reply.Mapped width height t rows) (λ refused same. cc) is) short room objects is content
-      by reply.Ready same is = carries call reply.Ready (not_refused (after history) call reply.Ready (λ refused same. cc) is) short room objects is content
+          carries call (reply.Mapped width height t rows) (not_refused (after history) call (reply.Mapped width height t rows) (λ refused same. cc) is) short room (subst (IsOfObjects call) (sym same) objects) is content
+      by reply.Ready same is = carries call reply.Ready (not_refused (after history) call reply.Ready (λ refused same. cc) is) short room (subst (IsOfObjects call) (sym same) objects) is content
       by (reply.NotReady given of) same is =
-          carries call (reply.NotReady given of) (not_refused (after history) call (reply.NotReady given of) (λ refused same. cc) is) short room objects is content
-      by (reply.Val v) same is = carries call (reply.Val v) (not_refused (after history) call (reply.Val v) (λ refused same. cc) is) short room objects is content
+          carries call (reply.NotReady given of) (not_refused (after history) call (reply.NotReady given of) (λ refused same. cc) is) short room (subst (IsOfObjects call) (sym same) objects) is content
+      by (reply.Val v) same is = carries call (reply.Val v) (not_refused (after history) call (reply.Val v) (λ refused same. cc) is) short room (subst (IsOfObjects call) (sym same) objects) is content
       by (reply.Listed names) same is =
-          carries call (reply.Listed names) (not_refused (after history) call (reply.Listed names) (λ refused same. cc) is) short room objects is content
-      by (reply.Info info) same is = carries call (reply.Info info) (not_refused (after history) call (reply.Info info) (λ refused same. cc) is) short room objects is content
+          carries call (reply.Listed names) (not_refused (after history) call (reply.Listed names) (λ refused same. cc) is) short room (subst (IsOfObjects call) (sym same) objects) is content
+      by (reply.Info info) same is = carries call (reply.Info info) (not_refused (after history) call (reply.Info info) (λ refused same. cc) is) short room (subst (IsOfObjects call) (sym same) objects) is content

@@ -48,7 +48,7 @@ taken_flights h name bytes s (Some loan) =
     ∙ changed_flights h (set_staged (with_value name (value.Object ty.Array1D s.next))) first (λ o. refl)
     ∙ changed_flights h (end_parameter_loan loan.number) s (λ o. refl)
 
-pub effect_flights : (place : ℕ) (call : Call) (r : Reply) (s : State) → IsOfObjects call → flights (effect place call r s) ≡ flights s
+pub effect_flights : (place : ℕ) (call : Call) (r : Reply) (s : State) → IsOfObjects call r → flights (effect place call r s) ≡ flights s
 unfolding effect unmap_parameter
 effect_flights place (NewObject t subtype) (reply.Made made) s objects = made_flights s (kind_of t subtype)
 effect_flights place (NewArray elem count stride origin bytes) (reply.Made made) s objects = new_flights (fresh_array elem count stride origin bytes) s refl
@@ -62,8 +62,8 @@ effect_flights place (MapParameterArray h name elem count) (reply.Lent number) s
     changed_flights h (lend_parameter (record { number = place; name = name; elem = elem; count = count })) s (λ o. refl)
 effect_flights place (UnmapParameterArray h name number bytes) (reply.Made made) s objects =
     taken_flights h name bytes s (option_and_then (λ o. parameter_loan number o.parameter_loans) (object_at s h))
-effect_flights place (RenderFrame h) r s objects = absurd objects
-effect_flights place (DiscardFrame h) r s objects = absurd objects
-effect_flights place (MapFrame h channel) r s objects = absurd objects
-effect_flights place (UnmapFrame h number) r s objects = absurd objects
+effect_flights place (RenderFrame h) reply.Done s objects = absurd objects
+effect_flights place (DiscardFrame h) reply.Done s objects = absurd objects
+effect_flights place (MapFrame h channel) (reply.Mapped width height t rows) s objects = absurd objects
+effect_flights place (UnmapFrame h number) reply.Done s objects = absurd objects
 effect_flights place _ _ s objects = refl

@@ -1,3 +1,4 @@
+pub mod Applied
 pub mod Carried
 pub mod CarryFacts
 pub mod Counts
@@ -10,4 +11,5 @@ pub mod Places
 pub mod ReachLaws
 pub mod Reaches
 pub mod Rested
+pub mod Tellables
 pub mod Tickets

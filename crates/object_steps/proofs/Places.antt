@@ -13,23 +13,25 @@ use Rattle.dev_types.specs.declared.values.Value.TheVariants as value
 use Rattle.kind_tables.specs.Kinds.{kind_of}
 use Rattle.kind_tables.specs.SceneObjects.{with_value, without_value}
 use Rattle.kind_tables.specs.declared.kinds.Kind.{Kind}
-use Rattle.object_store.specs.Ends.{Ends}
+use Rattle.object_store.specs.Ends.{Ends, ended, ended_of, notice_of}
 use Rattle.object_store.specs.Gathers.{IsLeft}
 use Rattle.object_store.specs.Kept.{Stored}
 use Rattle.object_store.specs.Parts.{at}
 use Rattle.object_store.proofs.DeadSteps.{has_key}
 use Rattle.past_laws.specs.Suits.{taken_array}
+use Rattle.seq_model.proofs.Came.{stop_objects}
 use Rattle.seq_model.specs.Life.{has}
 use Rattle.seq_model.specs.Refusals.{is_parameter_out}
-use Rattle.seq_model.specs.State.{Object, ParameterLoan, State, changed_at, object_at, parameter_loan, with_object}
-use Rattle.seq_model.specs.Steps.{change_array, commit, effect, end_parameter_loan, fresh, fresh_array, holding, lend_parameter, lent, set_staged, take_in, unmap_parameter}
-use Rattle.seq_model.specs.Told.{gone}
+use Rattle.seq_model.specs.State.{Empty, Object, ParameterLoan, State, changed_at, object_at, parameter_loan, with_object}
+use Rattle.seq_model.specs.Steps.{change_array, commit, discard, effect, end_parameter_loan, fresh, fresh_array, holding, lend_parameter, lent, set_phase, set_staged, take_in, unmap_parameter}
+use Rattle.seq_model.specs.Told.{end_of_object, gone}
 use Rattle.seq_model.specs.declared.calls.Call.{Call}
 use Rattle.seq_model.specs.declared.calls.Call.TheVariants.{NewObject, NewArray, Retain, Release, SetParameter, UnsetParameter, UnsetAll, Commit, MapArray, UnmapArray, MapParameterArray, UnmapParameterArray, RenderFrame, DiscardFrame, MapFrame, UnmapFrame}
 use Rattle.seq_model.specs.declared.calls.Reply.{Reply}
 use Rattle.seq_model.specs.declared.calls.Reply.TheVariants as reply
 use Rattle.object_steps.specs.Carrying.{CanCarry, carried}
-use Rattle.object_steps.specs.Objects.{HasPlaces, is_birth, one_if}
+use Rattle.object_steps.specs.Objects.{HasPlaces, is_birth, one_if, takes_memory}
+use Rattle.object_steps.proofs.Tellables.{effect_tellable, fewer_told, plain_tellable}
 
 -- what is collected of a list is no more than it has
 pub most_collected : {X Y : Type 0} (f : X → Option Y) (xs : List X) → length (filter_map f xs) ≤ length xs
@@ -95,7 +97,7 @@ none_more : (n : ℕ) → n ≡ n + 0
 none_more n = omega arith
 
 -- the call makes one object more, or none
-effect_length : (place : ℕ) (call : Call) (r : Reply) (s : Stored) → CanCarry s call r → length (effect place call r s.state).objects ≡ length s.state.objects + one_if (is_birth call r)
+pub effect_length : (place : ℕ) (call : Call) (r : Reply) (s : Stored) → CanCarry s call r → length (effect place call r s.state).objects ≡ length s.state.objects + one_if (is_birth call r)
 unfolding effect unmap_parameter
 effect_length place (NewObject t subtype) (reply.Made made) s can = made_length s.state (kind_of t subtype) can.1
 effect_length place (NewArray elem count stride origin bytes) (reply.Made made) s can = new_length (fresh_array elem count stride origin bytes) s.state
@@ -124,21 +126,48 @@ room_used place (Retain h) reply.Done s can = let e : 0 + one_if s.ready ≡ one
 room_used place (Release h) reply.Done s can = let e : 0 + one_if s.ready ≡ one_if s.ready = omega arith in e
 room_used place call r s can = let e : 0 + one_if s.ready ≡ one_if s.ready = omega arith in e
 
-pub places_after : (place : ℕ) (call : Call) (r : Reply) (s : Stored) (dead : Ends) (count places : ℕ) → CanCarry s call r → HasPlaces s dead count places →
-    HasPlaces (carried place call r s) dead (count + one_if (is_birth call r)) places
-places_after place call r s dead count places can has = record {
+pub places_after : (place : ℕ) (call : Call) (r : Reply) (s : Stored) (dead : Ends) (count told places : ℕ) → CanCarry s call r → HasPlaces s dead count told places →
+    HasPlaces (carried place call r s) dead (count + one_if (is_birth call r)) (told + one_if (takes_memory call r)) places
+places_after place call r s dead count told places can has = record {
   number = omega (arith, effect_length place call r s can, has.number);
-  none = has.none;
+  tellable = omega (arith, effect_tellable place call r s can, has.tellable);
   ends = omega (arith, room_used place call r s can, has.ends);
   handles = omega (arith, room_used place call r s can, has.handles);
 }
 
--- and so after a burial
-pub places_left : (old now : Stored) (before after : Ends) (count places more : ℕ) → IsLeft old now → HasPlaces old before count places → after.list ≡ [] → after.room ≡ before.room → more ≡ places →
-    (departed : ℕ) → departed ≡ length (keys_of (gone old.state now.state)) → HasPlaces now after (count - departed) more
-places_left old now before after count places more left has none room same departed number = record {
-  number = omega (arith, left_and_gone old now left, has.number, number);
-  none = none;
-  ends = omega (arith, left_and_gone old now left, has.number, number, has.ends, room, ap one_if left.ready);
-  handles = omega (arith, left_and_gone old now left, has.number, number, has.handles, same, ap one_if left.ready);
+-- and so after a change of one object, which leaves its array
+pub places_changed : (h : ℕ) (f : Object → Object) (s : Stored) (dead : Ends) (count told places : ℕ) → ((o : Object) → (f o).array ≡ o.array) → HasPlaces s dead count told places →
+    HasPlaces (record s { state = changed_at h f s.state }) dead count told places
+places_changed h f s dead count told places same has = record {
+  number = changed_length h f s.state ∙ has.number;
+  tellable = plain_tellable h f s.state same ∙ has.tellable;
+  ends = has.ends;
+  handles = has.handles;
 }
+
+stopped_objects : (h : ℕ) (s : State) → (discard h s).objects ≡ (changed_at h (set_phase Empty) s).objects
+unfolding discard
+stopped_objects h s = stop_objects (option_map_or (λ o. o.phase) (object_at s h) Empty) (changed_at h (set_phase Empty) s)
+
+-- and so after a discard, with other room for what was stopped
+pub places_discarded : (h room : ℕ) (s : Stored) (dead : Ends) (count told places : ℕ) → HasPlaces s dead count told places →
+    HasPlaces (record s { state = discard h s.state; places = room }) dead count told places
+places_discarded h room s dead count told places has = record {
+  number = ap (λ (es : List (ℕ × Object)). length es) (stopped_objects h s.state) ∙ changed_length h (set_phase Empty) s.state ∙ has.number;
+  tellable = ap (λ (es : List (ℕ × Object)). length (filter_map end_of_object es)) (stopped_objects h s.state) ∙ plain_tellable h (set_phase Empty) s.state (λ o. refl) ∙ has.tellable;
+  ends = has.ends;
+  handles = has.handles;
+}
+
+-- and so after a burial
+pub places_left : (old now : Stored) (before after : Ends) (count told places more : ℕ) → IsLeft old now → HasPlaces old before count told places →
+    after.list ≡ ended (gone old.state now.state) → filter_map notice_of after.list ≡ filter_map end_of_object (gone old.state now.state) → after.room ≡ before.room → more ≡ places →
+    (departed : ℕ) → departed ≡ length (keys_of (gone old.state now.state)) → (notices : ℕ) → notices ≡ length (filter_map notice_of after.list) → HasPlaces now after (count - departed) (told - notices) more
+places_left old now before after count told places more left has dead ends room same departed number notices noted =
+    let keys : length (keys_of (gone old.state now.state)) ≡ length (gone old.state now.state) = length-map (gone old.state now.state) (λ (e : ℕ × Object). e.0) in
+    record {
+      number = omega (arith, left_and_gone old now left, has.number, number);
+      tellable = omega (arith, fewer_told old now left, has.tellable, noted, ap length ends);
+      ends = omega (arith, left_and_gone old now left, has.number, number, has.ends, room, ap one_if left.ready, ap length dead, keys, most_collected ended_of (gone old.state now.state));
+      handles = omega (arith, left_and_gone old now left, has.number, number, has.handles, same, ap one_if left.ready);
+    }

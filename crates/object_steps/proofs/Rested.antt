@@ -20,6 +20,7 @@ use Rattle.seq_model.specs.Told.{end_of_object, gone, removed, status_at, told_b
 use Rattle.seq_model.specs.declared.calls.Entry.{Entry}
 use Rattle.seq_model.specs.declared.calls.Entry.TheVariants.{Called, Closed, Finished, Left}
 use Rattle.seq_model.specs.declared.calls.Reply.{Reply}
+use Rattle.seq_model.specs.declared.calls.Reply.TheVariants as reply
 use Rattle.seq_model.proofs.Afters.{after_more, seen_is_history}
 use Rattle.seq_model.proofs.Handles.{changed, changed_rises, rises as all_rise, step_state}
 use Rattle.seq_model.proofs.Keys.{RisesWithin, all_from_at, at, at_filter}
@@ -34,8 +35,8 @@ use Rattle.object_steps.proofs.Effects.{effect_flights}
 use Rattle.object_steps.proofs.Tickets.{live_alike, kept_tickets, none_counted, some_counted, tickets}
 
 -- a call on objects renders nothing
-no_render : (actor : ℕ) (call : Call) (r : Reply) → IsOfObjects call → rendered (Called actor call r) ≡ None
-no_render actor (RenderFrame h) r objects = absurd objects
+no_render : (actor : ℕ) (call : Call) (r : Reply) → IsOfObjects call r → rendered (Called actor call r) ≡ None
+no_render actor (RenderFrame h) reply.Done objects = absurd objects
 no_render actor _ r objects = refl
 
 -- what is removed by an entry but the close
@@ -151,7 +152,7 @@ module _ (history : History) (e : Entry) (moved : Stored) (follows : Follows mov
     }
 
 -- a call that was carried out is one more entry
-module _ (s : Stored) (history : History) (actor : ℕ) (call : Call) (r : Reply) (rest : IsAtRest s history) (counts : CountsItsObjects s) (objects : IsOfObjects call) (can : CanCarry s call r)
+module _ (s : Stored) (history : History) (actor : ℕ) (call : Call) (r : Reply) (rest : IsAtRest s history) (counts : CountsItsObjects s) (objects : IsOfObjects call r) (can : CanCarry s call r)
     (legal : Legal (history ++ Called actor call r ∷ [])) where
   state_moved : (carried (length history + 1) call r s).state ≡ changed (after history) (Called actor call r)
   unfolding change

@@ -1,3 +1,4 @@
+pub mod Applying
 pub mod Carrying
 pub mod Objects
 pub mod ParameterLoans

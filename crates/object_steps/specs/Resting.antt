@@ -9,6 +9,7 @@ use Rattle.seq_model.specs.Steps.{Past, after, change, is_reached_by, next_place
 use Rattle.seq_model.specs.declared.calls.Call.{Call}
 use Rattle.seq_model.specs.declared.calls.Entry.{Entry}
 use Rattle.seq_model.specs.declared.calls.Entry.TheVariants.{Called}
+use Rattle.seq_model.specs.declared.calls.Reply.{Reply}
 use Rattle.seq_model.specs.declared.calls.Reply.TheVariants as reply
 use Rattle.seq_model.specs.declared.calls.Call.TheVariants.{NewObject, NewArray, Retain, Release, UnmapParameterArray, RenderFrame, DiscardFrame, MapFrame, UnmapFrame}
 
@@ -39,13 +40,13 @@ KeepsReferences (Called _ (Retain _) reply.Done) = ⊥
 KeepsReferences (Called _ (Release _) reply.Done) = ⊥
 KeepsReferences e = Unit {0}
 
--- the call changes no frame
-abbrev pub IsOfObjects : Call → Type 0
-IsOfObjects (RenderFrame h) = ⊥
-IsOfObjects (DiscardFrame h) = ⊥
-IsOfObjects (MapFrame h channel) = ⊥
-IsOfObjects (UnmapFrame h number) = ⊥
-IsOfObjects call = Unit {0}
+-- the call changes no frame by its reply
+abbrev pub IsOfObjects : Call → Reply → Type 0
+IsOfObjects (RenderFrame h) reply.Done = ⊥
+IsOfObjects (DiscardFrame h) reply.Done = ⊥
+IsOfObjects (MapFrame h channel) (reply.Mapped _ _ _ _) = ⊥
+IsOfObjects (UnmapFrame h number) reply.Done = ⊥
+IsOfObjects call r = Unit {0}
 
 -- there is room for what the call makes
 abbrev pub HasRoom : Stored → Call → Type 0

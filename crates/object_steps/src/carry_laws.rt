@@ -36,7 +36,7 @@ pub fn calls_can_be_carried_out()
         → IsAtRest s history
         → length history < 2 ^ 63
         → HasRoom s call
-        → IsOfObjects call
+        → IsOfObjects call r
         → answer (after history) call ≡ Some r
         → is_content_sound (after history) call ≡ true
         → CanCarry s call r }
@@ -56,7 +56,7 @@ pub fn carried_calls_follow()
     ensures { (s : Stored) (history : History) (actor : ℕ) (call : Call) (r : Reply)
         → IsAtRest s history
         → CountsItsObjects s
-        → IsOfObjects call
+        → IsOfObjects call r
         → CanCarry s call r
         → Legal (history ++ Called actor call r ∷ [])
         → Follows (carried (length history + 1) call r s) history (Called actor call r) }

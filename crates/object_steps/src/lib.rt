@@ -6,10 +6,13 @@
 // a history led to.
 #![tactic(auto)]
 
+mod apply;
 pub mod array_loans;
 pub mod at_rest;
 pub mod carry_laws;
 pub mod changes;
+pub mod deciding;
+mod frames;
 pub mod lent_params;
 pub mod objects;
 

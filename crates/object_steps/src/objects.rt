@@ -4,17 +4,18 @@ ghost use Rattle.std.specs.BTreeMap.{is_at};
 ghost use Rattle.std.specs.List.{filter_map};
 ghost use Rattle.std.specs.Map.{keys_of, set_value};
 ghost use Rattle.std.specs.Ordering.{nat_cmp};
+ghost use Rattle.object_store.specs.Ends.{ended, notice_of};
 ghost use Rattle.object_store.specs.Gathers.{IsLeft, buried};
 ghost use Rattle.object_store.specs.Kept.{number_at};
 ghost use Rattle.seq_model.specs.Soundness.{IsRanked};
 ghost use Rattle.seq_model.specs.State.{empty, object_at};
 ghost use Rattle.seq_model.specs.Told.{end_of_object, gone};
 ghost use Rattle.object_steps.specs.Carrying.{CanCarry, GivesBack, carried, handed};
-ghost use Rattle.object_steps.specs.Objects.{is_birth};
+ghost use Rattle.object_steps.specs.Objects.{is_birth, one_if, takes_memory, tellable};
 
 use crate::array_loans::ArrayLoan;
 use crate::changes::carry_out;
-use dev_types::{Client, Handle, NoMemory};
+use dev_types::{Client, Handle, NoMemory, Origin};
 use object_store::dead::Dead;
 use object_store::store::Store;
 use seq_model::{Call, Reply};
@@ -24,12 +25,15 @@ use std::marker::Model;
 /// The objects of a device, with room for the ends of all of them, so that dying takes no memory.
 #[derive(Drop)]
 pub struct ObjectStore {
-    store: Store,
+    pub(crate) store: Store,
     // How many objects there are.
-    count: usize,
-    dead: Dead,
-    // The handles of those that died with the last burial.
-    departed: Vec<Handle>,
+    pub(crate) count: usize,
+    // Of the ends of how many the client is to be told.
+    pub(crate) tellable: usize,
+    // The arrays that died with the last burial, of whose end nothing was told yet.
+    pub(crate) dead: Dead,
+    // The handles of all that died with the last burial.
+    pub(crate) departed: Vec<Handle>,
 }
 
 impl Model for ObjectStore {
@@ -38,9 +42,13 @@ impl Model for ObjectStore {
 
     ghost Value = { Objects };
 
-    ghost view = { λ o. record { stored = o.store; departed = o.departed.items } };
+    ghost view = { λ o. record {
+      stored = o.store;
+      departed = o.departed.items;
+      dead = o.dead.list;
+    } };
 
-    ghost invariant = { λ o. HasPlaces o.store o.dead o.count (vec_capacity o.departed) };
+    ghost invariant = { λ o. HasPlaces o.store o.dead o.count o.tellable (vec_capacity o.departed) };
 }
 
 impl ObjectStore {
@@ -49,10 +57,12 @@ impl ObjectStore {
         ensures state { result.stored.state ≡ empty }
         ensures public { result.stored.public ≡ [] }
         ensures holds { result.stored.holds ≡ [] }
+        ensures dead { result.dead ≡ [] }
     {
         ObjectStore {
             store: Store::new(alloc),
             count: 0,
+            tellable: 0,
             dead: Dead::new(alloc),
             departed: Vec::new(alloc),
         }
@@ -70,6 +80,14 @@ impl ObjectStore {
         ensures { result.now ≡ self.now.departed }
     {
         &self.departed
+    }
+
+    /// Of how many ends the client is to be told: how many arrays there are whose memory the
+    /// application gave.
+    pub fn tellable(&self) -> usize
+        ensures { result ≡ tellable self.now.stored.state }
+    {
+        self.tellable
     }
 
     /// Makes room for one more object, and for its end.
@@ -116,36 +134,66 @@ impl ObjectStore {
             Ok(out) => out,
             Err(refused) => return Err(refused),
         };
-        if is_birth(call, reply) {
-            self.count += 1;
-        }
+        self.count += one_if(is_birth(call, reply));
+        self.tellable += one_if(takes_memory(call, reply));
         Ok(out)
+    }
+
+    /// Takes away all objects that do not live. The arrays among them are dead, by rising handle, and
+    /// of their ends nothing is told yet. This takes no memory.
+    pub fn gather(&mut self)
+        requires ranked { IsRanked self.old.stored.state.objects }
+        requires none { self.old.dead ≡ [] }
+        ensures state { self.new.stored.state ≡ buried self.old.stored }
+        ensures left { IsLeft self.old.stored self.new.stored }
+        ensures departed { self.new.departed ≡ keys_of (gone self.old.stored.state
+            self.new.stored.state) }
+        ensures dead { self.new.dead ≡ ended (gone self.old.stored.state self.new.stored.state) }
+        ensures notices { filter_map notice_of self.new.dead ≡ filter_map end_of_object (gone
+            self.old.stored.state self.new.stored.state) }
+    {
+        self.departed.clear();
+        self.store.gather(&mut self.dead, &mut self.departed);
+        self.count -= self.departed.len();
+        self.tellable -= self.dead.notices();
+    }
+
+    /// Tells the client of the ends of the arrays that are dead. This takes no memory.
+    pub fn tell<C: Client>(&mut self, client: &mut C)
+        requires { length (filter_map notice_of self.old.dead) ≤ C.spare client.old }
+        ensures none { self.new ≡ record self.old { dead = [] } }
+        ensures told { C.notices client.new ≡ C.notices client.old ++ filter_map notice_of
+            self.old.dead }
+        ensures room { C.spare client.old ≤ C.spare client.new + length (filter_map notice_of
+            self.old.dead) }
+    {
+        self.dead.tell(client);
     }
 
     /// Takes away all objects that do not live, and tells the client of their ends by rising handle.
     /// This takes no memory.
     pub fn bury<C: Client>(&mut self, client: &mut C)
         requires ranked { IsRanked self.old.stored.state.objects }
-        requires spare { length (filter_map end_of_object self.old.stored.state.objects) ≤ C.spare
-            client.old }
+        requires none { self.old.dead ≡ [] }
+        requires spare { tellable self.old.stored.state ≤ C.spare client.old }
         ensures state { self.new.stored.state ≡ buried self.old.stored }
         ensures left { IsLeft self.old.stored self.new.stored }
         ensures departed { self.new.departed ≡ keys_of (gone self.old.stored.state
             self.new.stored.state) }
+        ensures dead { self.new.dead ≡ [] }
         ensures told { C.notices client.new ≡ C.notices client.old ++ filter_map end_of_object
             (gone self.old.stored.state self.new.stored.state) }
         ensures room { C.spare client.old ≤ C.spare client.new + length (filter_map end_of_object
             (gone self.old.stored.state self.new.stored.state)) }
     {
-        self.departed.clear();
-        self.store.gather(&mut self.dead, &mut self.departed);
-        self.dead.tell(client);
-        self.count -= self.departed.len();
+        self.gather();
+        self.tell(client);
     }
 
     /// All objects end, and the client is told of their ends by rising handle. This takes no memory.
     pub fn close<C: Client>(self, client: &mut C)
-        requires { length (filter_map end_of_object self.stored.state.objects) ≤ C.spare client.old }
+        requires none { self.dead ≡ [] }
+        requires spare { tellable self.stored.state ≤ C.spare client.old }
         ensures told { C.notices client.new ≡ C.notices client.old ++ filter_map end_of_object
             self.stored.state.objects }
         ensures room { C.spare client.old ≤ C.spare client.new + length (filter_map end_of_object
@@ -154,6 +202,7 @@ impl ObjectStore {
         let ObjectStore {
             store,
             count: _,
+            tellable: _,
             mut dead,
             departed: _,
         } = self;
@@ -198,6 +247,22 @@ fn is_birth(call: &Call, reply: &Reply) -> bool
             call,
             Call::NewObject { .. } | Call::NewArray { .. } | Call::UnmapParameterArray { .. }
         )
+}
+
+/// Whether a call makes, by its reply, an array of memory that the application gave.
+fn takes_memory(call: &Call, reply: &Reply) -> bool
+    ensures { result ≡ takes_memory call.now reply.now }
+{
+    match (call, reply) {
+        (Call::NewArray { origin, .. }, Reply::Made(_)) => !matches!(origin, Origin::Managed),
+        _ => false,
+    }
+}
+
+fn one_if(test: bool) -> usize
+    ensures { result ≡ one_if test }
+{
+    if test { 1 } else { 0 }
 }
 
 /// Makes room for so many handles, in all.

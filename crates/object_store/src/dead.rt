@@ -113,6 +113,14 @@ impl Dead {
         self.ended.pop()
     }
 
+    /// Of how many of the arrays the client is to be told: of those whose memory the application gave.
+    #[tactic(auto, using(crate::proofs::Reversed::reversed_collected))]
+    pub fn notices(&self) -> usize
+        ensures { result ≡ length (filter_map notice_of self.now.list) }
+    {
+        notices_of(self.ended.as_slice())
+    }
+
     /// Tells the client of the end of each array whose memory the application gave, in their order.
     /// This takes no memory.
     pub fn tell<C: Client>(&mut self, client: &mut C)
@@ -126,6 +134,27 @@ impl Dead {
         while let Some(ended) = self.next() {
             tell_end(ended, client);
         }
+    }
+}
+
+/// Of how many of these arrays the client is to be told.
+fn notices_of(ended: &[Ended]) -> usize
+    ensures { result ≡ length (filter_map notice_of ended.now) }
+{
+    let mut count = 0;
+    for e in ended {
+        count += notice_count(e);
+    }
+    count
+}
+
+/// One where the client is to be told of the array, else none.
+fn notice_count(ended: &Ended) -> usize
+    ensures { result ≡ length (option_to_list (notice_of ended.now)) }
+{
+    match ended.origin {
+        Origin::Managed => 0,
+        _ => 1,
     }
 }
 

@@ -22,7 +22,7 @@ use Rattle.seq_model.specs.declared.calls.Reply.{Reply}
 use Rattle.seq_model.specs.declared.calls.Reply.TheVariants as reply
 use Rattle.past_laws.proofs.OpenFacts.{open_lets, readings_more}
 use Rattle.past_laws.proofs.RenderFacts.{have_tiles}
-use Rattle.plain_journal.proofs.SeenTiles.{HasTiles, SeesNone, answer_sees_none, like_itself, of_all_flights}
+use Rattle.answered_calls.proofs.SeenTiles.{HasTiles, SeesNone, answer_sees_none, like_itself, of_all_flights}
 use Rattle.plain_journal.specs.Unseen.{IsUnseen}
 use Rattle.past_laws.specs.Open.{IsOpen}
 

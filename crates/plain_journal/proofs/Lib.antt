@@ -6,6 +6,5 @@ pub mod Legality
 pub mod NoteFacts
 pub mod PreparedFacts
 pub mod RendersKept
-pub mod SeenTiles
 pub mod StepFacts
 pub mod WholeFacts

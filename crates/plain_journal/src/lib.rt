@@ -11,7 +11,6 @@ pub mod prepared;
 pub mod record;
 pub mod renders;
 pub mod steps;
-pub mod telling;
 #[cfg(test)]
 mod tests;
 pub mod uses;

@@ -13,7 +13,7 @@ ghost use Rattle.past_laws.specs.Open.{IsOpen};
 
 use crate::books::{Books, sweep_by};
 use crate::record::Record;
-use crate::telling::tell_status;
+use answered_calls::tell_status;
 use dev_types::{Client, Handle, NoMemory};
 use plain_objects::objects::Shows;
 use plain_objects::stage::Stage;

@@ -14,8 +14,8 @@ use Rattle.dev_types.specs.declared.refusals.Refused.{Refused}
 use Rattle.seq_model.specs.Endings.{reply_to}
 use Rattle.plain_device.specs.Views.{last_reply}
 use Rattle.replay_core.proofs.Answered.{nothing_asked, still_answered}
-use Rattle.replay_core.proofs.Cleaned.{entered_is_sound}
-use Rattle.replay_core.proofs.Strides.{not_less}
+use Rattle.answered_calls.proofs.Cleaned.{entered_is_sound}
+use Rattle.answered_calls.proofs.Strides.{not_less}
 use Rattle.kind_tables.specs.SceneObjects.{Block}
 use Rattle.replay_core.specs.Labels.{Meaning, call_of, call_of_query, handle_of}
 use Rattle.replay_core.specs.Loans.{IsRoomy, is_unmap, mapped_content, unmap_by}

@@ -8,7 +8,7 @@ use Rattle.kind_tables.specs.SceneObjects.{Block}
 use Rattle.plain_journal.proofs.Closings.{ending_done, ending_over, ending_start, ending_step, led_more, seen_more}
 use Rattle.past_laws.proofs.OpenFacts.{called_is_open, finished_is_open, left_is_open}
 use Rattle.plain_journal.proofs.Legality.{call_is_legal, finished_is_legal, left_is_legal}
-use Rattle.plain_journal.proofs.SeenTiles.{HasTiles}
+use Rattle.answered_calls.proofs.SeenTiles.{HasTiles}
 use Rattle.plain_journal.specs.Leaving.{IsEnding}
 use Rattle.past_laws.specs.Open.{IsOpen}
 use Rattle.plain_journal.specs.Unseen.{IsUnseen}

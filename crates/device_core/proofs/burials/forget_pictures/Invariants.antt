@@ -1,6 +1,6 @@
 use Rattle.std.proofs.Common.{◌≡◌, take}
 use Rattle.flight_books.specs.Kept.{with_future}
-use Rattle.device_core.specs.Graves.{without_pictures}
+use Rattle.device_laws.specs.FramesStand.{without_pictures}
 use Rattle.device_core.proofs.burials.forget_pictures.Given as goal
 
 abbrev pub invariant-loop-h : goal.invariant-loop-h

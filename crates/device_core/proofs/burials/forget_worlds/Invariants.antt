@@ -2,7 +2,7 @@ use Rattle.std.proofs.Common.{◌≡◌, ℕ, take, Bool}
 use Rattle.kept_worlds.specs.KeptMaps.{kept_at, reach_at}
 use Rattle.kept_worlds.specs.LastKept.{AreKept}
 use Rattle.seq_model.specs.Histories.{History}
-use Rattle.device_core.specs.Graves.{all_but_those, unless_dead}
+use Rattle.device_core.specs.Deaths.{all_but_those, unless_dead}
 use Rattle.device_core.proofs.burials.forget_worlds.Given as goal
 
 abbrev pub invariant-loop-h : goal.invariant-loop-h

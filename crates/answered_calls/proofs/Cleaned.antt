@@ -22,7 +22,7 @@ use Rattle.seq_model.specs.State.{ArrayState, Object, ParameterLoan, content_of_
 use Rattle.seq_model.specs.Steps.{Past, after, zeros}
 use Rattle.seq_model.specs.declared.calls.Call.{Call}
 use Rattle.seq_model.specs.declared.calls.Call.TheVariants.{UnmapArray, UnmapParameterArray}
-use Rattle.replay_core.proofs.Strides.{AreApart, are_apart}
+use Rattle.answered_calls.proofs.Strides.{AreApart, are_apart}
 
 -- an item stands in a list
 abbrev pub IsIn : {X : Type 0} → X → List X → Type 0

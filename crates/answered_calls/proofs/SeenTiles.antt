@@ -22,7 +22,7 @@ use Rattle.kind_tables.specs.WalkRefusals.{fault_of, first_answer, first_incompl
 use Rattle.kind_tables.specs.Walks.{Visit}
 use Rattle.kind_tables.specs.declared.kinds.Kind.{Kind}
 use Rattle.kind_tables.specs.declared.kinds.Kind.TheVariants.{FrameDefault, WorldDefault}
-use Rattle.seq_model.specs.Answers.{IsLike, answer, granted, mapped_picture, property_of, readiness}
+use Rattle.seq_model.specs.Answers.{IsAnswer, IsLike, answer, granted, mapped_picture, property_of, readiness}
 use Rattle.seq_model.specs.Pictures.{tiles_at}
 use Rattle.seq_model.specs.Refusals.{bad_elements, dead, first_of, given_handles, in_flight, is_bad_shape, no_channel, no_picture, not_held, object_of_value, own_of_type, phase_at, refusal, refusal_of_info, refusals_of, some_channel_mapped, this_channel_mapped, walk_at, wrong_kind, wrong_value}
 use Rattle.seq_model.specs.Properties.{refusal_of_property}
@@ -259,3 +259,8 @@ answer_sees_none past call r tiles is = by (refusal past call) (granted past cal
     by (Some refused) y first second is = let same : reply.Denied refused ≡ r = cc in subst SeesNone same first
     by None (Some a) first second is = let same : a ≡ r = cc in subst SeesNone same second
     by None None first second is = absurd cc
+
+-- and it is one that the call may have
+pub may_be_given : (past : Past) (call : Call) (r : Reply) → HasTiles past call → answer past call ≡ Some r → IsAnswer past call r
+unfolding IsAnswer
+may_be_given past call r tiles is = subst (λ x. MatchOption x ⊥ (λ a. IsLike a r)) (sym is) (like_itself r (answer_sees_none past call r tiles is))

@@ -1,5 +1,5 @@
 //! What the client is told of calls that are refused.
-ghost use Rattle.std.specs.Prelude.{◌≡◌, ◌<◌, ◌≤◌, ◌+◌, ◌++◌, ℕ};
+ghost use Rattle.std.specs.Prelude.{◌≡◌, ◌<◌, ◌≤◌, ◌+◌, ◌++◌, ℕ, length};
 ghost use Rattle.seq_model.specs.Told.{source_of, status_at};
 ghost use Rattle.seq_model.specs.declared.calls.Entry.TheVariants.{Called};
 
@@ -35,11 +35,12 @@ fn source_of(call: &Call) -> Handle
     }
 }
 
-/// Tells the client the status of a call that was refused.
+/// Tells the client the status of a call that was refused. This takes no memory.
 pub fn tell_status<C: Client>(client: &mut C, call: &Call, reply: &Reply)
     requires { 0 < C.spare client.old }
     ensures told { (actor : ℕ) → C.notices client.new ≡ C.notices client.old ++ status_at (Called actor call.now reply.now) }
     ensures room { C.spare client.old ≤ C.spare client.new + 1 }
+    ensures used { C.spare client.new + length (status_at (Called 0 call.now reply.now)) ≡ C.spare client.old }
 {
     if let Reply::Denied(refused) = reply {
         if let Some(status) = refused.status(source_of(call)) {

@@ -1,0 +1,3 @@
+pub mod Cleaned
+pub mod SeenTiles
+pub mod Strides

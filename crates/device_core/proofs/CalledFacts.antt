@@ -1,0 +1,106 @@
+-- What always holds of the parts of a device holds once a call is entered that changes no frame.
+use Rattle.std.proofs.Common.{◌≡◌, ◌∙◌, ℕ, ◌+◌, ◌<◌, Bool, true, false, List, [], ◌∷◌, ◌++◌, Option, None, length, length-append, refl, sym, ap, subst, arith}
+use Rattle.std.specs.List.{AllByRecursion, filter_map}
+use Rattle.std.specs.Map.{keys_of}
+use Rattle.flight_books.specs.Kept.{Books, with_future}
+use Rattle.frame_future.specs.Future.{Future}
+use Rattle.kept_worlds.specs.KeptMaps.{Worlds, kept_at, reach_at, shown_at}
+use Rattle.kept_worlds.specs.LastKept.{AreKept, AreShown, is_there}
+use Rattle.object_store.specs.Ends.{notice_of}
+use Rattle.object_store.specs.Gathers.{IsLeft, buried}
+use Rattle.object_store.specs.Kept.{CountsItsObjects, Stored}
+use Rattle.object_steps.specs.Carrying.{CanCarry, carried}
+use Rattle.object_steps.specs.Objects.{one_if, takes_memory, tellable}
+use Rattle.object_steps.specs.Resting.{Follows, IsOfObjects}
+use Rattle.object_steps.proofs.Rested.{ends_told, follows}
+use Rattle.object_steps.proofs.Tellables.{effect_tellable, fewer_told}
+use Rattle.past_laws.specs.Open.{IsOpen}
+use Rattle.past_laws.proofs.OpenFacts.{called_is_open, open_lets}
+use Rattle.seq_model.specs.Builds.{builds}
+use Rattle.seq_model.specs.Histories.{History, rendered}
+use Rattle.seq_model.specs.Legal.{Legal}
+use Rattle.seq_model.specs.Steps.{after}
+use Rattle.seq_model.specs.Told.{end_of_object, gone, status_at, told_by}
+use Rattle.seq_model.specs.declared.calls.Call.{Call}
+use Rattle.seq_model.specs.declared.calls.Call.TheVariants.{RenderFrame, DiscardFrame, MapFrame, UnmapFrame}
+use Rattle.seq_model.specs.declared.calls.Entry.{Entry}
+use Rattle.seq_model.specs.declared.calls.Entry.TheVariants.{Called, Closed}
+use Rattle.seq_model.specs.declared.calls.Reply.{Reply}
+use Rattle.seq_model.specs.declared.calls.Reply.TheVariants as reply
+use Rattle.device_laws.specs.FlightMoves.{moves_flights}
+use Rattle.device_laws.specs.Flown.{Flown, LetsNotes, runs_of}
+use Rattle.device_laws.specs.FramesStand.{FramesStand, without_pictures}
+use Rattle.device_laws.specs.Lent.{moves_channels}
+use Rattle.device_laws.proofs.FlownFacts.{others_keep}
+use Rattle.device_laws.proofs.FramesStandFacts.{fewer_kept}
+use Rattle.world_snapshot.specs.Worlds.{World}
+use Rattle.device_core.specs.AllParts.{AreParts, Inside, IsLoaded, shown_by}
+use Rattle.device_core.specs.Calls.{HasEntered}
+use Rattle.device_core.specs.Deaths.{all_but_those, unless_dead, untold}
+use Rattle.device_core.specs.Standing.{IsStanding}
+use Rattle.device_core.specs.declared.loads.Load.{Load}
+use Rattle.device_core.proofs.EntryFacts.{all_loaded, leaves, parts_after, same_builds}
+
+-- a call that changes no frame begins, ends and stops no flight, and maps no channel
+pub no_flight_moves : (actor : ℕ) (call : Call) (r : Reply) → IsOfObjects call r → moves_flights (Called actor call r) ≡ false
+no_flight_moves actor (RenderFrame h) reply.Done objects = absurd objects
+no_flight_moves actor (DiscardFrame h) reply.Done objects = absurd objects
+no_flight_moves actor _ r objects = refl
+
+pub no_channel_moves : (actor : ℕ) (call : Call) (r : Reply) → IsOfObjects call r → moves_channels (Called actor call r) ≡ false
+no_channel_moves actor (MapFrame h channel) (reply.Mapped width height t rows) objects = absurd objects
+no_channel_moves actor (UnmapFrame h number) reply.Done objects = absurd objects
+no_channel_moves actor _ r objects = refl
+
+pub no_render : (actor : ℕ) (call : Call) (r : Reply) → IsOfObjects call r → rendered (Called actor call r) ≡ None
+no_render actor (RenderFrame h) reply.Done objects = absurd objects
+no_render actor _ r objects = refl
+
+-- after a call on an open device notes may follow
+pub called_lets : (history : History) (actor : ℕ) (call : Call) (r : Reply) → IsOpen history → LetsNotes (history ++ Called actor call r ∷ [])
+called_lets history actor call r open_ note quiet =
+    open_lets (history ++ Called actor call r ∷ []) note (called_is_open (record (after history) { seen = history }) open_ actor call r)
+
+module _ (old : Inside) (actor : ℕ) (call : Call) (r : Reply) (p : AreParts old) (counted_old : CountsItsObjects old.objects.stored)
+    (objects : IsOfObjects call r) (can : CanCarry old.objects.stored call r) (legal : Legal (old.history ++ Called actor call r ∷ [])) where
+  abbrev pub moved : Stored
+  moved = carried (length old.history + 1) call r old.objects.stored
+
+  pub called_follows : Follows moved old.history (Called actor call r)
+  called_follows = follows old.objects.stored old.history actor call r p.rest counted_old objects can legal
+
+  no_close : Called actor call r ≡ Closed → ⊥
+  no_close same = absurd cc
+
+  module _ (new : Inside) (mid : Worlds World) (counted_moved : CountsItsObjects moved) (counted : CountsItsObjects new.objects.stored)
+      (is_left : IsLeft moved new.objects.stored) (is_buried : new.objects.stored.state ≡ buried moved)
+      (departed : new.objects.departed ≡ keys_of (gone moved.state new.objects.stored.state))
+      (grown : new.history ≡ old.history ++ Called actor call r ∷ [])
+      (flights : new.flights ≡ with_future old.flights (without_pictures old.flights.future new.objects.departed))
+      (touched : AreKept (is_there old.history) (old.history ++ Called actor call r ∷ []) (reach_at mid))
+      (shows : AreShown old.history (shown_at shown_by mid))
+      (forgotten : (w : ℕ) → kept_at new.worlds w ≡ unless_dead new.objects.departed w (kept_at mid w))
+      (known : (history : History) (there : ℕ → Bool) → AreKept there history (reach_at mid) → AreKept (all_but_those new.objects.departed there) history (reach_at new.worlds))
+      (same : new.builds ≡ old.builds) (room : new.room ≡ old.room) where
+    frames_are : new.flights.future.flights ≡ old.flights.future.flights
+    frames_are = ap (λ (b : Books Load). b.future.flights) flights ∙ (fewer_kept old.flights.future new.objects.departed).0
+
+    pub called_parts : IsStanding old → length old.history + length old.flights.future.flights + 1 < old.room → AreParts new
+    called_parts stands place = parts_after old new (Called actor call r) moved mid p no_close called_follows counted_moved counted is_left is_buried departed grown
+        (subst (λ fs. Flown (old.history ++ Called actor call r ∷ []) (runs_of fs)) (sym frames_are)
+        (others_keep old.history (Called actor call r) (runs_of old.flights.future.flights) legal (no_flight_moves actor call r objects) p.flown))
+        (subst (λ (b : Books Load). AllByRecursion (IsLoaded (old.history ++ Called actor call r ∷ [])) b.cargo) (sym flights) (all_loaded old.history (Called actor call r) old.flights.cargo p.loaded))
+        (called_lets old.history actor call r stands.open_) touched shows forgotten known
+        (same ∙ p.built ∙ sym (same_builds old.history (Called actor call r) (no_render actor call r objects)))
+        (let longer = ap length grown ∙ length-append old.history (Called actor call r ∷ []) in let count = ap length frames_are in
+        omega (arith, place, longer, count, room))
+
+    pub called_enters : filter_map notice_of new.objects.dead ≡ filter_map end_of_object (gone moved.state new.objects.stored.state) → HasEntered actor call r old new
+    called_enters notices = record {
+      grown = grown;
+      told = ap (λ ns. status_at (Called actor call r) ++ ns) notices ∙ sym (ends_told old.history (Called actor call r) moved called_follows new.objects.stored.state is_buried no_close);
+      fewer = (let parts = fewer_told moved new.objects.stored is_left in let dead = ap length notices in
+          let more = effect_tellable (length old.history + 1) call r old.objects.stored can in
+          omega (arith, parts, dead, more));
+      room = room;
+    }

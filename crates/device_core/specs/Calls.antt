@@ -1,0 +1,23 @@
+-- What a call does to the parts of a device.
+use Rattle.std.specs.Prelude.{◌≡◌, ℕ, ◌+◌, ◌++◌, ◌∷◌, []}
+use Rattle.std.specs.List.{filter_map}
+use Rattle.object_store.specs.Ends.{notice_of}
+use Rattle.object_steps.specs.Objects.{one_if, takes_memory, tellable}
+use Rattle.seq_model.specs.Steps.{after}
+use Rattle.seq_model.specs.Told.{status_at, told_by}
+use Rattle.seq_model.specs.declared.calls.Call.{Call}
+use Rattle.seq_model.specs.declared.calls.Entry.TheVariants.{Called}
+use Rattle.seq_model.specs.declared.calls.Reply.{Reply}
+use Rattle.device_core.specs.AllParts.{Inside}
+use Rattle.device_core.specs.Deaths.{untold}
+
+-- The history grew by this call alone. Behind its status the client is still to be told of the dead,
+-- in their order; with those that are left there are as many to be told of as before, and one more
+-- where the application gave the memory of an array
+pub record HasEntered (actor : ℕ) (call : Call) (r : Reply) (old new : Inside) : Type 0 where
+  pub grown : new.history ≡ old.history ++ Called actor call r ∷ []
+  pub told : status_at (Called actor call r) ++ filter_map notice_of new.objects.dead
+      ≡ told_by (after old.history) (Called actor call r)
+  pub fewer : tellable new.objects.stored.state + untold new.objects
+      ≡ tellable old.objects.stored.state + one_if (takes_memory call r)
+  pub room : new.room ≡ old.room
