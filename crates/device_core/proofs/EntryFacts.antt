@@ -153,7 +153,6 @@ module _ (old new : Inside) (e : Entry) (moved : Stored) (mid : Worlds World) (p
           and_true : (b : Bool) → (b && true) ≡ b
           and_true true = refl
           and_true false = refl
-
       by false was =
           ap (λ t. kept_by t (last_use (old.history ++ e ∷ []) w)) (and_false (not (has w new.objects.departed))) ∙ nothing_gone (last_use (old.history ++ e ∷ []) w)
           ∙ sym (comes w (is_there (old.history ++ e ∷ []) w) was refl)

@@ -1,4 +1,5 @@
 -- Lemmas of this crate.
+pub mod BeginFacts
 pub mod CalledFacts
 pub mod EndFacts
 pub mod EntryFacts
@@ -9,6 +10,7 @@ pub mod LookFacts
 pub mod NotedFacts
 pub mod OnceFacts
 pub mod RenderSteps
+pub mod RenderedFacts
 pub mod SeenFacts
 pub mod ShownFacts
 pub mod SweepFacts

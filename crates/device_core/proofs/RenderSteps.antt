@@ -1,5 +1,5 @@
 -- What a render makes of what a device keeps: of its worlds, of its builds, and of what is kept with its flight.
-use Rattle.std.proofs.Common.{◌≡◌, ◌∙◌, ℕ, ◌+◌, ◌<◌, Bool, true, false, List, [], ◌∷◌, ◌++◌, Option, Some, None, length, length-append, refl, sym, ap, subst, arith}
+use Rattle.std.proofs.Common.{◌≡◌, ◌∙◌, ℕ, ◌+◌, ◌==◌, ◌<◌, Bool, true, false, List, [], ◌∷◌, ◌++◌, Option, Some, None, length, length-append, refl, sym, ap, subst, arith}
 use Rattle.std.specs.Prelude.{Err, IfSome, IsSome, IsSomeAnd, Ok, OnOk, Result, codes, cond}
 use Rattle.std.specs.Option.{MatchOption, is_none, is_some, option_and_then, option_map, option_map_or, option_or, unwrap_or}
 use Rattle.dev_types.specs.Counting.{times}
@@ -44,6 +44,7 @@ use Rattle.world_laws.proofs.Reaches.{reached_is_there}
 use Rattle.world_laws.specs.Alike.{Shown, shown_of}
 use Rattle.world_snapshot.specs.Worlds.{World}
 use Rattle.device_core.specs.AllParts.{IsLoaded, scene_of_load, shown_by}
+use Rattle.device_core.specs.Begins.{without_world, world_of_build}
 use Rattle.device_core.specs.Renders.{HasEachOnce, IsBuildOf, IsGranted, IsWanted, wants_build, world_in}
 use Rattle.device_core.specs.declared.loads.Load.{Load}
 use Rattle.device_core.specs.declared.renders.Build.{Build}
@@ -198,6 +199,18 @@ module _ (old new : Worlds World) (build : Option Build) (b : Build) (is : build
       let of : IsBuildOf (scene_objects (after history).state) f b = subst (λ x. IfSome x (IsBuildOf (scene_objects (after history).state) f)) is wanted.build_is in
       let shows : world_of (after history).state f ≡ Some b.world = sym (world_read (after history).state f) ∙ of.world in
       keep history (is_there history) actor f (world_is_there history f b.world legal shows) shows of.reach kept
+
+  pub build_others : (made : Kept World) → ((w : ℕ) → kept_at new w ≡ cond (b.world == w) (Some made) (kept_at old w)) →
+      (w : ℕ) → without_world (world_of_build build) w (kept_at new w) ≡ without_world (world_of_build build) w (kept_at old w)
+  build_others made now w =
+      ap (λ x. without_world (world_of_build x) w (kept_at new w)) is
+      ∙ ap (cond (b.world == w) None) (now w)
+      ∙ by (b.world == w)
+      ∙ sym (ap (λ x. without_world (world_of_build x) w (kept_at old w)) is)
+    where
+      by : (t : Bool) → cond t None (cond t (Some made) (kept_at old w)) ≡ cond t None (kept_at old w)
+      by true = refl
+      by false = refl
 
   pub build_shown : ((shows : World → Shown) (history : History) → shows b.prepared ≡ shown_of (scene_objects (after history).state) b.world →
       AreShown history (shown_at shows old) → AreShown history (shown_at shows new)) →

@@ -61,7 +61,8 @@ impl Parts {
         };
         self.objects.store().counts_its_objects();
         touch(&mut self.worlds, &call, &reply);
-        self.journal.push_reserved(Entry::Called { actor, call, reply });
+        self.journal
+            .push_reserved(Entry::Called { actor, call, reply });
         bury(&mut self.objects, &mut self.flights, &mut self.worlds);
         self.objects.store().counts_its_objects();
         Ok(out)

@@ -2,6 +2,7 @@
 //! happened.
 #![tactic(auto)]
 
+mod begins;
 mod burials;
 mod calls;
 mod ends;

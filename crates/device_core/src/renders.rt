@@ -1,6 +1,6 @@
 //! What a render takes along, before it changes anything.
 ghost use Rattle.std.specs.Prelude.{◌≡◌, ◌++◌, ◌∷◌, [], ℕ, Some, IfOk, OnErr, OnOk};
-ghost use Rattle.kept_worlds.specs.KeptMaps.{reach_at, shown_at};
+ghost use Rattle.kept_worlds.specs.KeptMaps.{kept_at, reach_at, shown_at};
 ghost use Rattle.kept_worlds.specs.LastKept.{AreKept, AreShown, is_there};
 ghost use Rattle.kind_tables.specs.Scenes.{scene};
 ghost use Rattle.kind_tables.specs.Walks.{visited, walk};
@@ -12,6 +12,7 @@ ghost use Rattle.seq_model.specs.State.{scene_objects};
 ghost use Rattle.seq_model.specs.Steps.{after};
 ghost use Rattle.world_snapshot.specs.Worlds.{IsShownBy};
 ghost use Rattle.device_core.specs.AllParts.{scene_of_load, shown_by};
+ghost use Rattle.device_core.specs.Begins.{without_world, world_of_build};
 ghost use Rattle.device_core.specs.Renders.{
   AreCurrent,
   HasEachOnce,
@@ -163,6 +164,9 @@ pub fn keep_build(
     build: Option<Build>,
 ) -> Result<(), NoMemory>
     ensures refused { OnErr result (worlds.new ≡ worlds.old) }
+    ensures others { OnOk result ((w : ℕ)
+        → without_world (world_of_build build) w (kept_at worlds.new w)
+        ≡ without_world (world_of_build build) w (kept_at worlds.old w)) }
     ensures known { OnOk result ((history : History) (actor f : ℕ)
         → Legal history
         → IsWanted (scene_objects (after history).state) worlds.old f build

@@ -53,7 +53,7 @@ end_flight-requires c =
     let cargo = c.in-Some.over.cargo in
     let left = c.next_ended.new.self.future.flights in
     let x : IsEnding old e cargo left = ending old c.args.after c.frames.result.now c.next_ended.new.self.future e cargo c.self.invariant c.frames.ensures.value c.are_kept.ensures.rising c.frames.ensures.books c.in-Some.ensures.seen c.in-Some.ensures.cargo.0 in
-    record { own = own_frame old e cargo left x; }
+    record { own = own_frame old e cargo left x }
 
 pub unhold_all-requires : goal.unhold_all-requires
 unhold_all-requires c =
@@ -185,16 +185,16 @@ returns-clause-stands c =
     let moves : c.unhold_all.new.objects ≡ moved old e cargo left x = c.unhold_all.ensures ∙ ap (λ reach. with_holds c.end_flight.new.objects (held_less reach c.end_flight.new.objects.stored.holds)) c.as_slice.ensures.value
     ∙ ap (λ (o : Objects). with_holds o (held_less cargo.kept.reach.items o.stored.holds)) (c.end_flight.ensures (next_place (after old.history))) in
     λ stands. noted_stands old (record { objects = c.bury.new.objects; flights = c.bury.new.flights; worlds = c.bury.new.worlds; history = c.push_reserved.new.self.items; room = vec_capacity c.push_reserved.new.self; builds = c.self.inside.builds }) e cargo left x
-          (subst CountsItsObjects (c.store.ensures ∙ ap (λ (o : Objects). o.stored) moves) c.counts_its_objects.ensures)
-          (subst CountsItsObjects c.store-2.ensures c.counts_its_objects-2.ensures)
-          (subst (λ (o : Objects). IsLeft o.stored c.bury.new.objects.stored) moves c.bury.ensures.left)
-          (c.bury.ensures.state ∙ ap (λ (o : Objects). buried o.stored) moves)
-          (c.bury.ensures.departed ∙ ap (λ (o : Objects). keys_of (gone o.stored.state c.bury.new.objects.stored.state)) moves)
-          (c.push_reserved.ensures.items ∙ ap (λ n. old.history ++ n ∷ []) c.note_of.ensures)
-          (ap (λ (b : Books Load). b.future.flights) c.bury.ensures.flights ∙ (fewer_kept c.next_ended.new.self.future c.bury.new.objects.departed).0)
-          (ap (λ (b : Books Load). b.cargo) c.bury.ensures.flights ∙ c.in-Some.ensures.cargo.1)
-          c.bury.ensures.forgotten c.bury.ensures.known refl c.push_reserved.ensures.capacity
-          c.args.after c.next_ended.new.self.future c.in-Some.ensures.seen (ap (λ (b : Books Load). b.future) c.bury.ensures.flights) (subst IsStanding (sym c.self.view_is) stands)
+    (subst CountsItsObjects (c.store.ensures ∙ ap (λ (o : Objects). o.stored) moves) c.counts_its_objects.ensures)
+    (subst CountsItsObjects c.store-2.ensures c.counts_its_objects-2.ensures)
+    (subst (λ (o : Objects). IsLeft o.stored c.bury.new.objects.stored) moves c.bury.ensures.left)
+    (c.bury.ensures.state ∙ ap (λ (o : Objects). buried o.stored) moves)
+    (c.bury.ensures.departed ∙ ap (λ (o : Objects). keys_of (gone o.stored.state c.bury.new.objects.stored.state)) moves)
+    (c.push_reserved.ensures.items ∙ ap (λ n. old.history ++ n ∷ []) c.note_of.ensures)
+    (ap (λ (b : Books Load). b.future.flights) c.bury.ensures.flights ∙ (fewer_kept c.next_ended.new.self.future c.bury.new.objects.departed).0)
+    (ap (λ (b : Books Load). b.cargo) c.bury.ensures.flights ∙ c.in-Some.ensures.cargo.1)
+    c.bury.ensures.forgotten c.bury.ensures.known refl c.push_reserved.ensures.capacity
+    c.args.after c.next_ended.new.self.future c.in-Some.ensures.seen (ap (λ (b : Books Load). b.future) c.bury.ensures.flights) (subst IsStanding (sym c.self.view_is) stands)
 
 pub returns-in-None-clause-stands : goal.returns-in-None-clause-stands
 returns-in-None-clause-stands c =
