@@ -1,29 +1,30 @@
 -- What always holds of the parts of a device holds once a call is entered that changes no frame.
-use Rattle.std.proofs.Common.{◌≡◌, ◌∙◌, ℕ, ◌+◌, ◌<◌, Bool, true, false, List, [], ◌∷◌, ◌++◌, Option, None, length, length-append, refl, sym, ap, subst, arith}
+use Rattle.std.proofs.Common.{◌≡◌, ◌∙◌, ℕ, ◌+◌, ◌<◌, Bool, true, false, List, [], ◌∷◌, ◌++◌, None, Some, length, length-append, refl, sym, ap, subst, arith}
+use Rattle.std.specs.Prelude.{IsTrue}
+use Rattle.std.specs.Option.{unwrap_or}
 use Rattle.std.specs.List.{AllByRecursion, filter_map}
 use Rattle.std.specs.Map.{keys_of}
 use Rattle.flight_books.specs.Kept.{Books, with_future}
-use Rattle.frame_future.specs.Future.{Future}
 use Rattle.kept_worlds.specs.KeptMaps.{Worlds, kept_at, reach_at, shown_at}
 use Rattle.kept_worlds.specs.LastKept.{AreKept, AreShown, is_there}
 use Rattle.object_store.specs.Ends.{notice_of}
 use Rattle.object_store.specs.Gathers.{IsLeft, buried}
 use Rattle.object_store.specs.Kept.{CountsItsObjects, Stored}
 use Rattle.object_steps.specs.Carrying.{CanCarry, carried}
-use Rattle.object_steps.specs.Objects.{one_if, takes_memory, tellable}
 use Rattle.object_steps.specs.Resting.{Follows, IsOfObjects}
 use Rattle.object_steps.proofs.Rested.{ends_told, follows}
 use Rattle.object_steps.proofs.Tellables.{effect_tellable, fewer_told}
 use Rattle.past_laws.specs.Open.{IsOpen}
 use Rattle.past_laws.proofs.OpenFacts.{called_is_open, open_lets}
-use Rattle.seq_model.specs.Builds.{builds}
+use Rattle.past_laws.specs.Worlds.{Touches}
+use Rattle.seq_model.specs.Builds.{is_touching}
+use Rattle.seq_model.specs.Life.{has}
 use Rattle.seq_model.specs.Histories.{History, rendered}
 use Rattle.seq_model.specs.Legal.{Legal}
 use Rattle.seq_model.specs.Steps.{after}
-use Rattle.seq_model.specs.Told.{end_of_object, gone, status_at, told_by}
+use Rattle.seq_model.specs.Told.{end_of_object, gone, status_at}
 use Rattle.seq_model.specs.declared.calls.Call.{Call}
-use Rattle.seq_model.specs.declared.calls.Call.TheVariants.{RenderFrame, DiscardFrame, MapFrame, UnmapFrame}
-use Rattle.seq_model.specs.declared.calls.Entry.{Entry}
+use Rattle.seq_model.specs.declared.calls.Call.TheVariants.{Commit, RenderFrame, DiscardFrame, MapFrame, UnmapArray, UnmapFrame}
 use Rattle.seq_model.specs.declared.calls.Entry.TheVariants.{Called, Closed}
 use Rattle.seq_model.specs.declared.calls.Reply.{Reply}
 use Rattle.seq_model.specs.declared.calls.Reply.TheVariants as reply
@@ -31,15 +32,26 @@ use Rattle.device_laws.specs.FlightMoves.{moves_flights}
 use Rattle.device_laws.specs.Flown.{Flown, LetsNotes, runs_of}
 use Rattle.device_laws.specs.FramesStand.{FramesStand, without_pictures}
 use Rattle.device_laws.specs.Lent.{moves_channels}
+use Rattle.device_laws.proofs.CallFacts.{call_kept}
 use Rattle.device_laws.proofs.FlownFacts.{others_keep}
 use Rattle.device_laws.proofs.FramesStandFacts.{fewer_kept}
 use Rattle.world_snapshot.specs.Worlds.{World}
 use Rattle.device_core.specs.AllParts.{AreParts, Inside, IsLoaded, shown_by}
-use Rattle.device_core.specs.Calls.{HasEntered}
-use Rattle.device_core.specs.Deaths.{all_but_those, unless_dead, untold}
+use Rattle.device_core.specs.Calls.{HasEntered, touched_by}
+use Rattle.device_core.specs.Deaths.{all_but_those, unless_dead}
 use Rattle.device_core.specs.Standing.{IsStanding}
 use Rattle.device_core.specs.declared.loads.Load.{Load}
 use Rattle.device_core.proofs.EntryFacts.{all_loaded, leaves, parts_after, same_builds}
+
+in_itself : (h k : ℕ) → k ≡ h → IsTrue (has k (h ∷ []))
+in_itself h k same = subst (λ x. IsTrue (has x (h ∷ []))) (sym same) (is_true_if (has h (h ∷ [])) (here h))
+  where
+    here : (h : ℕ) → has h (h ∷ []) ≡ true
+    here h = grind arith
+
+    is_true_if : (b : Bool) → b ≡ true → IsTrue b
+    is_true_if true is = refl
+    is_true_if false is = absurd cc
 
 -- a call that changes no frame begins, ends and stops no flight, and maps no channel
 pub no_flight_moves : (actor : ℕ) (call : Call) (r : Reply) → IsOfObjects call r → moves_flights (Called actor call r) ≡ false
@@ -55,6 +67,23 @@ no_channel_moves actor _ r objects = refl
 pub no_render : (actor : ℕ) (call : Call) (r : Reply) → IsOfObjects call r → rendered (Called actor call r) ≡ None
 no_render actor (RenderFrame h) reply.Done objects = absurd objects
 no_render actor _ r objects = refl
+
+-- a call touches what it touches by its reply, and nothing else
+pub touches : (actor h : ℕ) (call : Call) (r : Reply) → touched_by call r ≡ Some h → Touches h (Called actor call r)
+touches actor h (Commit k) reply.Done is = in_itself h k (some_is is)
+  where
+    some_is : {k h : ℕ} → Some k ≡ Some h → k ≡ h
+    some_is {k} same = ap (λ o. unwrap_or o k) same
+touches actor h (UnmapArray k number bytes) reply.Done is = in_itself h k (some_is is)
+  where
+    some_is : {k h : ℕ} → Some k ≡ Some h → k ≡ h
+    some_is {k} same = ap (λ o. unwrap_or o k) same
+touches actor h call r is = absurd cc
+
+pub untouched : (actor : ℕ) (call : Call) (r : Reply) → touched_by call r ≡ None → (objects : List ℕ) → is_touching objects (Called actor call r) ≡ false
+untouched actor (Commit h) reply.Done is objects = absurd cc
+untouched actor (UnmapArray h number bytes) reply.Done is objects = absurd cc
+untouched actor call r is objects = refl
 
 -- after a call on an open device notes may follow
 pub called_lets : (history : History) (actor : ℕ) (call : Call) (r : Reply) → IsOpen history → LetsNotes (history ++ Called actor call r ∷ [])
@@ -95,6 +124,12 @@ module _ (old : Inside) (actor : ℕ) (call : Call) (r : Reply) (p : AreParts ol
         (let longer = ap length grown ∙ length-append old.history (Called actor call r ∷ []) in let count = ap length frames_are in
         omega (arith, place, longer, count, room))
 
+    pub called_stands : IsStanding old → IsStanding new
+    called_stands stands =
+        subst (λ h. FramesStand h new.flights.future) (sym grown) (subst (λ (b : Books Load). FramesStand (old.history ++ Called actor call r ∷ []) b.future) (sym flights)
+        (call_kept old.history actor call r old.flights.future new.objects.departed (no_flight_moves actor call r objects) (no_channel_moves actor call r objects) p.flown
+        (leaves old.history (Called actor call r) moved new.objects.stored new.objects.departed no_close called_follows counted_moved counted is_left is_buried departed) stands))
+
     pub called_enters : filter_map notice_of new.objects.dead ≡ filter_map end_of_object (gone moved.state new.objects.stored.state) → HasEntered actor call r old new
     called_enters notices = record {
       grown = grown;
@@ -102,5 +137,5 @@ module _ (old : Inside) (actor : ℕ) (call : Call) (r : Reply) (p : AreParts ol
       fewer = (let parts = fewer_told moved new.objects.stored is_left in let dead = ap length notices in
           let more = effect_tellable (length old.history + 1) call r old.objects.stored can in
           omega (arith, parts, dead, more));
-      room = room;
+      room = (let same_room = room in omega (arith, same_room));
     }

@@ -1,23 +1,20 @@
 -- What always holds of the parts of a device holds once one entry more was made, and what nothing holds any more is gone.
-use Rattle.std.proofs.Common.{◌≡◌, ◌∙◌, ◌⊎◌, inl, inr, ℕ, ◌+◌, ◌<◌, ◌≤◌, ◌&&◌, Bool, true, false, not, cond, List, [], ◌∷◌, ◌++◌, Option, Some, None, length, length-append, refl, sym, ap, subst, arith}
+use Rattle.std.proofs.Common.{◌≡◌, ◌∙◌, ℕ, ◌+◌, ◌<◌, ◌≤◌, ◌&&◌, Bool, true, false, not, cond, List, [], ◌∷◌, ◌++◌, Option, Some, None, length, length-append, refl, sym, ap, subst, arith}
 use Rattle.std.specs.List.{AllByRecursion}
 use Rattle.std.specs.Map.{keys_of}
 use Rattle.std.specs.Option.{MatchOption, is_some, option_and_then, option_map, option_map_or, unwrap_or}
-use Rattle.dev_types.specs.Counting.{times}
 use Rattle.flight_books.specs.Kept.{is_of, without}
 use Rattle.flight_books.specs.declared.kept.Cargo.{Cargo}
 use Rattle.object_store.specs.Kept.{CountsItsObjects, Stored}
 use Rattle.object_store.specs.Gathers.{IsLeft, buried}
-use Rattle.object_store.specs.Parts.{at}
 use Rattle.object_store.proofs.DeadSteps.{has_key}
 use Rattle.object_steps.specs.Resting.{Follows, IsAtRest}
 use Rattle.object_steps.proofs.Rested.{rests}
 use Rattle.seq_model.specs.Histories.{History, rendered}
 use Rattle.seq_model.specs.Builds.{builds}
-use Rattle.seq_model.specs.Legal.{Legal}
 use Rattle.seq_model.specs.Life.{has}
 use Rattle.seq_model.specs.State.{Object, State, object_at, scene_objects}
-use Rattle.seq_model.specs.Steps.{Past, after, change, is_reached_by, next_place, step}
+use Rattle.seq_model.specs.Steps.{Past, after, change, is_reached_by, next_place}
 use Rattle.seq_model.specs.Told.{gone}
 use Rattle.seq_model.specs.declared.calls.Entry.{Entry}
 use Rattle.seq_model.specs.declared.calls.Entry.TheVariants.{Closed}

@@ -9,6 +9,7 @@ pub mod KeptFacts
 pub mod LookFacts
 pub mod NotedFacts
 pub mod OnceFacts
+pub mod RecordFacts
 pub mod RenderSteps
 pub mod RenderedFacts
 pub mod SeenFacts

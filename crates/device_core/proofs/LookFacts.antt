@@ -1,5 +1,5 @@
 -- What a look at flights leaves of their runs.
-use Rattle.std.proofs.Common.{◌≡◌, ◌∙◌, ◌⊎◌, inl, inr, ℕ, true, false, cond, List, [], ◌∷◌, ◌++◌, refl, sym, ap}
+use Rattle.std.proofs.Common.{◌≡◌, ◌∙◌, ◌⊎◌, inl, inr, ℕ, true, false, cond, List, [], ◌∷◌, ◌++◌, sym, ap}
 use Rattle.std.proofs.lemmas.Bool.{cases_Bool}
 use Rattle.frame_future.specs.Flights.{Flying, looked_at}
 use Rattle.frame_future.specs.Reads.{AreRead, ended_by, is_end, left_by}

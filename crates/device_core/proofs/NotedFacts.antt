@@ -1,8 +1,8 @@
 -- What always holds of the parts of a device holds once a flight that ended is noted.
-use Rattle.std.proofs.Common.{◌≡◌, ◌∙◌, ℕ, ◌+◌, ◌<◌, ◌==◌, ◌&&◌, ◌||◌, Bool, true, false, not, cond, List, [], ◌∷◌, ◌++◌, Option, Some, None, map, refl, sym, ap, ap₂, subst, arith}
+use Rattle.std.proofs.Common.{◌≡◌, ◌∙◌, ℕ, ◌+◌, ◌<◌, ◌==◌, ◌||◌, Bool, true, false, List, [], ◌∷◌, ◌++◌, Option, Some, None, map, refl, sym, ap, ap₂, subst, arith}
 use Rattle.std.specs.List.{AllByRecursion, filter_map}
 use Rattle.std.specs.Map.{keys_of}
-use Rattle.std.specs.Option.{MatchOption, is_some, option_and_then, option_map, option_map_or, unwrap_or}
+use Rattle.std.specs.Option.{option_and_then, option_map_or, unwrap_or}
 use Rattle.std.proofs.Common.{length, length-append, ◌≤◌}
 use Rattle.dev_types.specs.Counting.{times}
 use Rattle.flight_books.specs.Kept.{AreBooks, cargo_at, is_of, without}
@@ -13,34 +13,27 @@ use Rattle.frame_future.specs.Flights.{Flying}
 use Rattle.frame_future.specs.Future.{Future, Rising}
 use Rattle.frame_future.specs.Reads.{AreSeen}
 use Rattle.frame_future.specs.declared.phase.Ended.{Ended}
-use Rattle.object_store.specs.Kept.{CountsItsObjects, Stored, number_at}
+use Rattle.object_store.specs.Kept.{CountsItsObjects, number_at}
 use Rattle.object_store.specs.Ends.{notice_of}
 use Rattle.object_store.specs.Gathers.{IsLeft, buried}
-use Rattle.object_steps.specs.Resting.{Follows, IsAtRest}
+use Rattle.object_steps.specs.Resting.{Follows}
 use Rattle.seq_model.specs.Histories.{History, frame_at, rendered}
 use Rattle.seq_model.specs.Legal.{Legal}
 use Rattle.seq_model.specs.Life.{has}
-use Rattle.seq_model.specs.Steps.{Past, after, change, end_flight, end_flights, is_reached_by, next_place, step, with_reach}
+use Rattle.seq_model.specs.Steps.{after, change, next_place}
 use Rattle.seq_model.specs.declared.calls.Entry.TheVariants.{Closed}
-use Rattle.seq_model.specs.State.{Done, Empty, Object, State, object_at, scene_objects}
-use Rattle.seq_model.specs.Builds.{builds, is_touching}
-use Rattle.seq_model.proofs.Afters.{after_more}
-use Rattle.object_store.proofs.Keyed.{keys_keyed}
-use Rattle.past_laws.specs.Worlds.{last_use, wants_build, world_of}
-use Rattle.past_laws.proofs.WorldFacts.{builds_more}
-use Rattle.device_laws.proofs.RenderFacts.{scene_early}
+use Rattle.seq_model.specs.State.{Empty, Object, State, object_at}
+use Rattle.seq_model.specs.Builds.{is_touching}
+use Rattle.past_laws.specs.Worlds.{world_of}
 use Rattle.device_laws.specs.Flown.{Flown, IsNoted, IsRun, LetsNotes, Run, note_of_run, runs_of, tickets_in}
 use Rattle.device_laws.proofs.SweepFacts.{one_noted, tickets_of_runs}
 use Rattle.device_laws.proofs.StandingFacts.{found}
-use Rattle.device_core.specs.AllParts.{AreParts, Inside, IsLoaded, shown_by}
+use Rattle.device_core.specs.AllParts.{AreParts, Inside, IsLoaded}
 use Rattle.device_laws.specs.FramesStand.{FramesStand, without_pictures}
 use Rattle.device_laws.proofs.NoteFacts.{note_kept}
 use Rattle.device_core.specs.Standing.{IsStanding}
 use Rattle.device_core.proofs.EntryFacts.{leaves, others_loaded, parts_after, same_builds}
 use Rattle.kept_worlds.proofs.LastFacts.{stay_known}
-use Rattle.kept_worlds.proofs.NowFacts.{shown_over}
-use Rattle.world_laws.specs.Alike.{shown_of}
-use Rattle.world_snapshot.specs.Worlds.{World}
 use Rattle.device_core.specs.declared.loads.Load.{Load}
 use Rattle.device_core.specs.Notes.{note}
 use Rattle.device_core.proofs.FollowFacts.{noted_follows, once, was_held}
@@ -49,8 +42,8 @@ use Rattle.device_laws.proofs.FlownFacts.{middle, own_flight}
 use Rattle.device_laws.specs.Showings.{is_flight, nothing_shown, showing_at, showing_of}
 use Rattle.device_core.specs.Deaths.{all_but_those, unless_dead, untold}
 use Rattle.device_core.specs.Holds.{held_less, with_holds}
-use Rattle.kept_worlds.specs.KeptMaps.{Kept, kept_at, reach_at, shown_at}
-use Rattle.kept_worlds.specs.LastKept.{AreKept, AreShown, is_there}
+use Rattle.kept_worlds.specs.KeptMaps.{kept_at, reach_at}
+use Rattle.kept_worlds.specs.LastKept.{AreKept, is_there}
 use Rattle.object_steps.proofs.Rested.{ends_told}
 use Rattle.object_steps.specs.Objects.{Objects, tellable, with_state}
 use Rattle.seq_model.specs.Told.{end_of_object, gone, status_at, told_by}

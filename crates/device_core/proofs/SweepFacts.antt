@@ -1,24 +1,20 @@
 -- Sweeps, note by note.
-use Rattle.std.proofs.Common.{◌≡◌, ◌∙◌, ℕ, ◌+◌, ◌<◌, ◌≤◌, List, [], ◌∷◌, ◌++◌, Option, Some, None, length, refl, sym, ap, subst, arith}
+use Rattle.std.proofs.Common.{◌≡◌, ◌∙◌, ℕ, ◌+◌, ◌<◌, List, [], ◌∷◌, ◌++◌, Option, Some, None, length, refl, sym, ap, subst, arith}
 use Rattle.std.proofs.lemmas.List.{append-nil}
 use Rattle.std.specs.List.{AllByRecursion, filter_map}
-use Rattle.flight_books.specs.Kept.{over_by, without}
+use Rattle.flight_books.specs.Kept.{without}
 use Rattle.flight_books.specs.Sweeps.{IsSwept, IsUnderWay, note_of_end}
 use Rattle.flight_books.proofs.SweepLaws.{begins, fewer, goes_on, is_over}
-use Rattle.frame_future.specs.Flights.{Flying}
 use Rattle.frame_future.specs.Future.{AreHome, Finished, Future}
 use Rattle.frame_future.specs.Reads.{AreSeen, ended_by, pictures_of}
 use Rattle.frame_future.specs.declared.phase.Ended.{Ended}
 use Rattle.object_store.specs.Ends.{notice_of}
 use Rattle.seq_model.proofs.Tellings.{told_more}
 use Rattle.seq_model.specs.Told.{told}
-use Rattle.seq_model.specs.declared.calls.Entry.{Entry}
 use Rattle.device_core.specs.AllParts.{Inside}
 use Rattle.device_core.specs.Deaths.{all_told}
 use Rattle.device_core.specs.Notes.{HasNoted, HasNotedNothing, note}
-use Rattle.device_core.specs.Standing.{IsStanding}
 use Rattle.device_core.specs.Sweeps.{HasSwept, showing}
-use Rattle.device_core.specs.declared.loads.Load.{Load}
 use Rattle.device_laws.proofs.FramesStandFacts.{fewer_kept}
 
 -- a look at flights sees the same whatever pictures there are

@@ -1,13 +1,15 @@
 -- What a call does to the parts of a device.
-use Rattle.std.specs.Prelude.{◌≡◌, ℕ, ◌+◌, ◌++◌, ◌∷◌, []}
+use Rattle.std.specs.Prelude.{◌≡◌, ℕ, ◌+◌, ◌≤◌, ◌++◌, ◌∷◌, [], Option, Some, None}
 use Rattle.std.specs.List.{filter_map}
 use Rattle.object_store.specs.Ends.{notice_of}
 use Rattle.object_steps.specs.Objects.{one_if, takes_memory, tellable}
 use Rattle.seq_model.specs.Steps.{after}
 use Rattle.seq_model.specs.Told.{status_at, told_by}
 use Rattle.seq_model.specs.declared.calls.Call.{Call}
+use Rattle.seq_model.specs.declared.calls.Call.TheVariants.{Commit, UnmapArray}
 use Rattle.seq_model.specs.declared.calls.Entry.TheVariants.{Called}
 use Rattle.seq_model.specs.declared.calls.Reply.{Reply}
+use Rattle.seq_model.specs.declared.calls.Reply.TheVariants as reply
 use Rattle.device_core.specs.AllParts.{Inside}
 use Rattle.device_core.specs.Deaths.{untold}
 
@@ -20,4 +22,23 @@ pub record HasEntered (actor : ℕ) (call : Call) (r : Reply) (old new : Inside)
       ≡ told_by (after old.history) (Called actor call r)
   pub fewer : tellable new.objects.stored.state + untold new.objects
       ≡ tellable old.objects.stored.state + one_if (takes_memory call r)
-  pub room : new.room ≡ old.room
+  pub room : old.room ≤ new.room
+
+-- the object that a call touches by its reply, so that worlds that reached it show something else
+abbrev pub touched_by : Call → Reply → Option ℕ
+touched_by (Commit h) reply.Done = Some h
+touched_by (UnmapArray h _ _) reply.Done = Some h
+touched_by call r = None
+
+-- nothing changed but for how much there is room
+pub record HasRoomMade (old new : Inside) : Type 0 where
+  pub same : new ≡ record old {
+    room = new.room;
+    objects = record old.objects {
+      stored = record old.objects.stored {
+        ready = new.objects.stored.ready;
+        places = new.objects.stored.places;
+      };
+    };
+  }
+  pub grows : old.room ≤ new.room

@@ -1,27 +1,144 @@
 //! Calls that change no frame: what they do to the objects is carried out, and they are entered.
-ghost use Rattle.std.specs.Prelude.{◌≡◌, ◌+◌, ◌<◌, ◌++◌, ◌∷◌, [], ℕ, Bool, IfErr, IfOk, None, OnErr, OnOk, length};
+ghost use Rattle.std.specs.Prelude.{◌≡◌, ◌+◌, ◌<◌, ◌≤◌, ◌^◌, ◌++◌, ◌∷◌, [], ℕ, Bool, IfErr, IfOk, None, OnErr, OnOk, Some, false, length};
+ghost use Rattle.std.specs.Option.{unwrap_or};
 ghost use Rattle.flight_books.specs.Kept.{with_future};
 ghost use Rattle.kept_worlds.specs.KeptMaps.{reach_at, shown_at};
 ghost use Rattle.kept_worlds.specs.LastKept.{AreKept, AreShown};
-ghost use Rattle.object_steps.specs.Carrying.{CanCarry, GivesBack, handed};
-ghost use Rattle.object_steps.specs.Resting.{IsOfObjects};
+ghost use Rattle.object_steps.specs.Applying.{is_frame_call};
+ghost use Rattle.object_steps.specs.Carrying.{Brings, CanCarry, GivesBack, handed};
+ghost use Rattle.object_steps.specs.Resting.{HasRoom, IsOfObjects};
+ghost use Rattle.seq_model.specs.Answers.{answer};
+ghost use Rattle.seq_model.specs.Contents.{entered};
 ghost use Rattle.seq_model.specs.Histories.{History, rendered};
 ghost use Rattle.seq_model.specs.Legal.{Legal};
+ghost use Rattle.seq_model.specs.Steps.{after};
 ghost use Rattle.seq_model.specs.declared.calls.Entry.TheVariants.{Called};
 ghost use Rattle.world_laws.specs.Alike.{Shown as ShownWorld};
 ghost use Rattle.device_laws.specs.FramesStand.{without_pictures};
-ghost use Rattle.device_core.specs.Calls.{HasEntered};
+ghost use Rattle.device_core.specs.Calls.{HasEntered, HasRoomMade, touched_by};
 ghost use Rattle.device_core.specs.Standing.{IsStanding};
 
 use crate::burials::bury;
 use crate::parts::Parts;
-use dev_types::NoMemory;
+use crate::records::Recorded;
+use dev_types::{Handle, NoMemory};
 use kept_worlds::KeptWorlds;
 use object_steps::ArrayLoan;
+use object_steps::deciding::{Decided, decide};
 use seq_model::{Call, Entry, Reply};
 use std::alloc::Global;
 
 impl Parts {
+    /// Makes a call that is none on frames: it is refused or carried out, and entered; what it touched
+    /// of kept worlds is dropped, and what nothing holds any more dies. Its reply is handed out, with
+    /// the loan of a map, or that of an unmap which is refused.
+    ///
+    /// # Errors
+    /// `NoMemory`; the call and the loan come back, and nothing has changed but for the room.
+    pub(crate) fn call(
+        &mut self,
+        alloc: Global,
+        actor: u32,
+        call: Call,
+        with: ArrayLoan,
+    ) -> Result<(Reply, ArrayLoan), (NoMemory, Call, ArrayLoan)>
+        requires all_told { self.old.objects.dead ≡ [] }
+        requires stands { IsStanding self.old }
+        requires short { length self.old.history < 2 ^ 63 }
+        requires no_frame { is_frame_call call ≡ false }
+        requires brings { Brings call with }
+        ensures entered { IfOk result (λ r. HasEntered actor (entered (after self.old.history) call)
+            r.0 self.old self.new) }
+        ensures answered { IfOk result (λ r. answer (after self.old.history)
+            (entered (after self.old.history) call) ≡ Some r.0) }
+        ensures frames { OnOk result (self.new.flights ≡ with_future self.old.flights
+            (without_pictures self.old.flights.future self.new.objects.departed)) }
+        ensures stands { IsStanding self.new }
+        ensures handed { IfOk result (λ r. r.1 ≡ handed (length self.old.history + 1)
+            (entered (after self.old.history) call) r.0 self.old.objects.stored.state with) }
+        ensures returned { IfErr result (λ e. (e.1 ≡ call) × (e.2 ≡ with)) }
+        ensures err { OnErr result (HasRoomMade self.old self.new) }
+    {
+        let Ok(()) = self.make_place() else {
+            return Err((NoMemory, call, with));
+        };
+        let Ok(()) = self.objects.make_ready(alloc, &call) else {
+            return Err((NoMemory, call, with));
+        };
+        self.answer_call(alloc, actor, call, with)
+    }
+
+    /// Makes room in the journal for one entry more, beside the notes of the flights.
+    fn make_place(&mut self) -> Result<(), NoMemory>
+        ensures place { OnOk result (length self.old.history + length self.old.flights.future.flights
+            + 1 < self.new.room) }
+        ensures same { self.new ≡ record self.old { room = self.new.room } }
+        ensures grows { self.old.room ≤ self.new.room }
+    {
+        let Some(more) = self.flights.flight_count().checked_add(2) else {
+            return Err(NoMemory);
+        };
+        self.journal.reserve(more)?;
+        Ok(())
+    }
+
+    /// Makes a call for which there is room: it is answered, and entered.
+    fn answer_call(
+        &mut self,
+        alloc: Global,
+        actor: u32,
+        call: Call,
+        with: ArrayLoan,
+    ) -> Result<(Reply, ArrayLoan), (NoMemory, Call, ArrayLoan)>
+        requires all_told { self.old.objects.dead ≡ [] }
+        requires stands { IsStanding self.old }
+        requires short { length self.old.history < 2 ^ 63 }
+        requires no_frame { is_frame_call call ≡ false }
+        requires brings { Brings call with }
+        requires ready { HasRoom self.old.objects.stored call }
+        requires place { length self.old.history + length self.old.flights.future.flights + 1
+            < self.old.room }
+        ensures entered { IfOk result (λ r. HasEntered actor (entered (after self.old.history) call)
+            r.0 self.old self.new) }
+        ensures answered { IfOk result (λ r. answer (after self.old.history)
+            (entered (after self.old.history) call) ≡ Some r.0) }
+        ensures frames { OnOk result (self.new.flights ≡ with_future self.old.flights
+            (without_pictures self.old.flights.future self.new.objects.departed)) }
+        ensures stands { OnOk result (IsStanding self.new) }
+        ensures handed { IfOk result (λ r. r.1 ≡ handed (length self.old.history + 1)
+            (entered (after self.old.history) call) r.0 self.old.objects.stored.state with) }
+        ensures returned { IfErr result (λ e. (e.1 ≡ call) × (e.2 ≡ with)) }
+        ensures err { OnErr result (self.new ≡ self.old) }
+    {
+        self.are_parts();
+        let Ok(decided) = self.decide(alloc, &call) else {
+            return Err((NoMemory, call, with));
+        };
+        let Ok(answer) = decided.reply.share(alloc) else {
+            return Err((NoMemory, call, with));
+        };
+        let Decided { cleaned, reply } = decided;
+        let (entry, made) = parted(cleaned, call);
+        match self.enter_call(alloc, actor, entry, reply, with) {
+            Ok(out) => Ok((answer, out)),
+            Err((none, entry, with)) => Err((none, made.unwrap_or(entry), with)),
+        }
+    }
+
+    /// What a call is answered, and how it is entered.
+    fn decide(&self, alloc: Global, call: &Call) -> Result<Decided, NoMemory>
+        requires stands { IsStanding self.now }
+        requires no_frame { is_frame_call call.now ≡ false }
+        ensures entered { IfOk result (λ d. unwrap_or d.cleaned call.now
+            ≡ entered (after self.now.history) call.now) }
+        ensures answered { IfOk result (λ d. answer (after self.now.history)
+            (unwrap_or d.cleaned call.now) ≡ Some d.reply) }
+    {
+        self.are_parts();
+        let recorded = Recorded::new(self);
+        decide(self.objects.store(), alloc, &recorded, call)
+    }
+
     /// Carries out a call that was answered, and that changes no frame, and enters it: what it
     /// touched of kept worlds is dropped, and what nothing holds any more dies. There is a place for
     /// it in the journal.
@@ -69,6 +186,17 @@ impl Parts {
     }
 }
 
+/// The call as it is entered, and the call that was made, where that is another.
+fn parted(cleaned: Option<Call>, call: Call) -> (Call, Option<Call>)
+    ensures entry { result.0 ≡ unwrap_or cleaned call }
+    ensures made { unwrap_or result.1 result.0 ≡ call }
+{
+    match cleaned {
+        Some(entry) => (entry, Some(call)),
+        None => (call, None),
+    }
+}
+
 /// Drops each kept world that reached the object that a call touches by its reply.
 fn touch<P: Drop>(worlds: &mut KeptWorlds<P>, call: &Call, reply: &Reply)
     requires { (actor : ℕ) → rendered (Called actor call.now reply.now) ≡ None }
@@ -79,8 +207,17 @@ fn touch<P: Drop>(worlds: &mut KeptWorlds<P>, call: &Call, reply: &Reply)
         → AreShown history (shown_at shows worlds.old)
         → AreShown history (shown_at shows worlds.new) }
 {
+    if let Some(h) = touched_by(call, reply) {
+        worlds.touch(h);
+    }
+}
+
+/// The object that a call touches by its reply, so that worlds that reached it show something else.
+fn touched_by(call: &Call, reply: &Reply) -> Option<Handle>
+    ensures { result ≡ touched_by call.now reply.now }
+{
     match (call, reply) {
-        (Call::Commit { h } | Call::UnmapArray { h, .. }, Reply::Done) => worlds.touch(*h),
-        _ => {}
+        (Call::Commit { h } | Call::UnmapArray { h, .. }, Reply::Done) => Some(*h),
+        _ => None,
     }
 }

@@ -1,6 +1,6 @@
 //! What the parts of a device tell of what happened, to whoever asks why a call is refused.
 ghost use Rattle.std.specs.Prelude.{◌≡◌, ◌<◌, ◌+◌, ◌^◌, IfSome, IsSome, length};
-ghost use Rattle.frame_future.specs.Future.{flight_of};
+ghost use Rattle.frame_future.specs.Future.{asked_by, flight_of};
 ghost use Rattle.seq_model.specs.Pictures.{tiles_at};
 ghost use Rattle.device_core.specs.AllParts.{AreParts};
 ghost use Rattle.device_core.specs.Standing.{IsStanding};
@@ -57,7 +57,7 @@ impl Records for Recorded<'_> {
             },
             Shows::Picture(ticket) => Shown::Picture {
                 ticket,
-                asked: self.parts.flights.frames().asked(h),
+                asked: self.parts.asked(h),
             },
         }
     }
@@ -80,12 +80,22 @@ impl Parts {
         self.journal.len() as u64
     }
 
+    /// Which channels a frame asked for when its picture was rendered, in the order of `Channel`; none
+    /// where it has no picture.
+    fn asked(&self, frame: Handle) -> [bool; 4]
+        ensures { result ≡ asked_by self.now.flights.future frame }
+    {
+        self.flights.frames().asked(frame)
+    }
+
     /// In how many tiles the flight of a frame is rendered.
     fn tiles(&self, frame: Handle) -> u64
         requires { IsSome (flight_of self.now.flights.future frame) }
         ensures { IfSome (flight_of self.now.flights.future frame)
             (λ f. result ≡ tiles_at self.now.history f.ticket) }
     {
+        // Its clause tells the proof what always holds of the flights.
+        self.flights.frames().are_kept();
         let Some(cargo) = self.flights.cargo_of(frame) else {
             unreachable!();
         };

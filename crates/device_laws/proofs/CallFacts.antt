@@ -3,6 +3,7 @@ use Rattle.std.proofs.Common.{ℕ, ◌+◌, ◌≡◌, ◌∙◌, not, Bool, tru
 use Rattle.std.specs.Prelude.{cond}
 use Rattle.std.specs.List.{AllByRecursion}
 use Rattle.dev_types.specs.declared.handles.Channel.{Channel}
+use Rattle.dev_types.specs.declared.refusals.Refused.{Refused}
 use Rattle.frame_future.specs.Channels.{is_asked}
 use Rattle.frame_future.specs.Flights.{Flying, is_stopped, key_at}
 use Rattle.frame_future.specs.Future.{Finished, Future, IsDiscarded, IsKept, flight_of, is_flight_of, is_picture_of, replaced, with_flight}
@@ -17,7 +18,7 @@ use Rattle.seq_model.specs.Refusals.{phase_at}
 use Rattle.seq_model.specs.State.{Done, scene_objects}
 use Rattle.seq_model.specs.Steps.{after}
 use Rattle.seq_model.specs.declared.calls.Call.{Call}
-use Rattle.seq_model.specs.declared.calls.Call.TheVariants.{DiscardFrame, RenderFrame}
+use Rattle.seq_model.specs.declared.calls.Call.TheVariants.{DiscardFrame, MapFrame, RenderFrame, UnmapFrame}
 use Rattle.seq_model.specs.declared.calls.Entry.{Entry}
 use Rattle.seq_model.specs.declared.calls.Entry.TheVariants.{Called}
 use Rattle.seq_model.specs.declared.calls.Reply.{Reply}
@@ -32,7 +33,7 @@ use Rattle.device_laws.proofs.RenderFacts.{FlightShows, PictureShows, render_beg
 use Rattle.device_laws.proofs.StandingFacts.{found}
 use Rattle.device_laws.proofs.StandingSteps.{all_filtered, discard_stands, others_stand, render_stands}
 use Rattle.device_laws.specs.FlightMoves.{moves_flights}
-use Rattle.device_laws.specs.Flown.{Flown, Run, runs_of, stopped_runs}
+use Rattle.device_laws.specs.Flown.{Flown, runs_of, stopped_runs}
 use Rattle.device_laws.specs.FramesStand.{FramesStand, LeavesBut, without_pictures}
 use Rattle.device_laws.specs.Lent.{AreLent, moves_channels}
 use Rattle.device_laws.specs.Renders.{Renders, ShowsRender}
@@ -51,6 +52,15 @@ call_kept history actor call r s dead still quiet flown leaves stand =
     (renders_stay history (Called actor call r ∷ []) s flown stand.stands stand.shows)
     (others_lent history (Called actor call r) (λ h. not (has h dead)) s.pictures quiet leaves stand.stands.shown stand.lent)
 
+-- a call that was refused
+pub refused_moves_nothing : (actor : ℕ) (call : Call) (refused : Refused) →
+    (moves_flights (Called actor call (reply.Denied refused)) ≡ false) × (moves_channels (Called actor call (reply.Denied refused)) ≡ false)
+refused_moves_nothing actor (RenderFrame f) refused = (refl, refl)
+refused_moves_nothing actor (DiscardFrame f) refused = (refl, refl)
+refused_moves_nothing actor (MapFrame f c) refused = (refl, refl)
+refused_moves_nothing actor (UnmapFrame f number) refused = (refl, refl)
+refused_moves_nothing actor call refused = (refl, refl)
+
 -- the pictures of other frames
 others_stay_lent : (history : History) (e : Entry) (f : ℕ) (left : ℕ → Bool) (pictures : List Finished) → moves_channels e ≡ false → AreLeft history e left →
     AllByRecursion (λ p. phase_at (after history) p.frame ≡ Done p.ticket) pictures → AreLent history pictures → AreLent (history ++ e ∷ []) (pictures_left left (other_pictures f pictures))
@@ -63,13 +73,20 @@ others_show : (history : History) (f : ℕ) (pictures : List Finished) → AllBy
 others_show history f pictures shows = all_filtered (PictureShows history) (PictureShows history) (λ p. not (is_picture_of f p)) pictures (λ p is other. is) shows
 
 -- a render
+pub render_runs : (s : Future) (flight : Flying) (t : ℕ) → flight.ticket ≡ t → is_stopped flight ≡ false →
+    runs_of (with_flight s flight).flights ≡ runs_of s.flights ++ record { ticket = t; frame = flight.frame; stopped = false } ∷ []
+render_runs s flight t ticket going =
+    (begun_runs s flight).0
+    ∙ ap (λ t. runs_of s.flights ++ record { ticket = t; frame = flight.frame; stopped = is_stopped flight } ∷ []) ticket
+    ∙ ap (λ b. runs_of s.flights ++ record { ticket = t; frame = flight.frame; stopped = b } ∷ []) going
+
 pub render_kept : (history : History) (actor : ℕ) (s : Future) (flight : Flying) (dead : List ℕ) → flight.ticket ≡ length history + 1 → is_stopped flight ≡ false →
     scene_of (key_at flight) ≡ scene (scene_objects (after history).state) flight.frame → ((c : Channel) → is_asked flight.channels c ≡ asks_for (after history).state flight.frame c) →
     Flown history (runs_of s.flights) → LeavesBut history (render_of actor flight.frame) dead → FramesStand history s →
     FramesStand (history ++ render_of actor flight.frame ∷ []) (without_pictures (with_flight s flight) dead)
 render_kept history actor s flight dead ticket going shows asked flown leaves stand =
     stands_without (history ++ render_of actor flight.frame ∷ []) (with_flight s flight) dead (called_open history actor (RenderFrame flight.frame) reply.Done stand.open_)
-    (subst (λ rs. Standing (history ++ render_of actor flight.frame ∷ []) rs (pictures_left (λ h. not (has h dead)) (other_pictures flight.frame s.pictures))) (sym runs)
+    (subst (λ rs. Standing (history ++ render_of actor flight.frame ∷ []) rs (pictures_left (λ h. not (has h dead)) (other_pictures flight.frame s.pictures))) (sym (render_runs s flight (length history + 1) ticket going))
     (render_stands history actor flight.frame (λ h. not (has h dead)) (runs_of s.flights) s.pictures leaves stand.stands))
     (record {
       flights =
@@ -82,20 +99,11 @@ render_kept history actor s flight dead ticket going shows asked flown leaves st
     })
     (others_stay_lent history (render_of actor flight.frame) flight.frame (λ h. not (has h dead)) s.pictures refl leaves stand.stands.shown stand.lent)
   where
-    begun : Run
-    begun = record { ticket = length history + 1; frame = flight.frame; stopped = false }
-
-    runs : runs_of (with_flight s flight).flights ≡ runs_of s.flights ++ begun ∷ []
-    runs =
-        (begun_runs s flight).0
-        ∙ ap (λ t. runs_of s.flights ++ record { ticket = t; frame = flight.frame; stopped = is_stopped flight } ∷ []) ticket
-        ∙ ap (λ b. runs_of s.flights ++ record { ticket = length history + 1; frame = flight.frame; stopped = b } ∷ []) going
-
     stay : Renders (history ++ render_of actor flight.frame ∷ []) s
     stay = renders_stay history (render_of actor flight.frame ∷ []) s flown stand.stands stand.shows
 
 -- a discard
-all_put : {X : Type 0} (P : X → Type 0) (p : X → Bool) (new : X) (xs : List X) → P new → AllByRecursion P xs → AllByRecursion P (replaced p new xs)
+pub all_put : {X : Type 0} (P : X → Type 0) (p : X → Bool) (new : X) (xs : List X) → P new → AllByRecursion P xs → AllByRecursion P (replaced p new xs)
 all_put P p new [] is all = tt
 all_put {X} P p new (x ∷ xs) is all = by (p x) (all_put P p new xs is all.1)
   where

@@ -8,7 +8,7 @@ use Rattle.std.proofs.lemmas.List.{get_or-drop, map-append}
 use Rattle.dev_types.specs.declared.handles.NoMemory.{NoMemory as NoRoom}
 use Rattle.tile_claims.specs.declared.seats.Claims.{Claims}
 use Rattle.tile_claims.specs.declared.seats.Seat.{Seat}
-use Rattle.flight_books.specs.Work.{AreAsked, AreSpent, HandsOut, IsAsked, seats_of}
+use Rattle.flight_books.specs.Work.{AreAsked, AreSpent, HandsOut, seats_of}
 use Rattle.flight_books.specs.declared.work.Handed.{Handed}
 use Rattle.frame_future.specs.Flights.{Flying, IsWorked, back as back_with, key_at}
 use Rattle.frame_future.specs.Future.{Finished, Future, IsHandout, asked_for, flight_at, has_ticket, is_picture_of, replaced, shown_by, with_flight, with_flight_at, with_picture}
@@ -50,61 +50,59 @@ map_set g [] i x y there same = refl
 map_set g (z ∷ xs) zero x y there same = let one : z ≡ x = cc in ap (λ w. w ∷ map g xs) (same ∙ ap g (sym one))
 map_set g (z ∷ xs) (suc i) x y there same = ap (λ ws. g z ∷ ws) (map_set g xs i x y there same)
 
--- a flight that was asked for a seat
+-- what a flight keeps that is asked for a seat, all flights keep
+module _ {Y : Type 0} (g : Flying → Y) (keeps : (result : Result (Option (Claims × Seat)) NoRoom) (read : ℕ) (f : Flying) → g (asked_for result read f) ≡ g f) where
+  handout_same : (f h : Flying) (result : Result (Option (Claims × Seat)) NoRoom) → IsHandout f h result → g h ≡ g f
+  handout_same f h result handout = ap g handout.now ∙ keeps result handout.read f
+
+  spent_same : (place : ℕ) (old between : Future) → AreSpent place old.flights between.flights → length between.flights ≡ length old.flights → drop place between.flights ≡ drop place old.flights →
+      map g between.flights ≡ map g old.flights
+  spent_same place old between spent count behind = map_alike g old.flights between.flights count (λ k d less. by k d (cases_lt k place))
+    where
+      later : (k : ℕ) (d : Flying) → place + (k - place) ≡ k → slice_index_or between.flights k d ≡ slice_index_or old.flights k d
+      later k d at_k =
+          ap (λ n. slice_index_or between.flights n d) (sym at_k) ∙ sym (get_or-drop place between.flights (k - place) d)
+          ∙ ap (λ fs. slice_index_or fs (k - place) d) behind ∙ get_or-drop place old.flights (k - place) d ∙ ap (λ n. slice_index_or old.flights n d) at_k
+
+      by : (k : ℕ) (d : Flying) → (k < place) ⊎ (place ≤ k) → g (slice_index_or between.flights k d) ≡ g (slice_index_or old.flights k d)
+      by k d (inl before) = handout_same (slice_index_or old.flights k d) (slice_index_or between.flights k d) (Ok None) (spent k d before)
+      by k d (inr behind_) = ap g (later k d (omega (arith, behind_)))
+
+  hands_same : (old new : Future) (result : Result (Option Handed) NoRoom) → HandsOut old new result → map g new.flights ≡ map g old.flights
+  hands_same old new result hands =
+      ap (map g) hands.asked.flights
+      ∙ map_set g hands.between.flights hands.place hands.asked.before hands.asked.after hands.asked.there (handout_same hands.asked.before hands.asked.after (seats_of result) hands.asked.handout)
+      ∙ spent_same hands.place old hands.between hands.spent hands.count hands.behind
+
+  pub asked_flights : (old new : Future) (result : Result (Option Handed) NoRoom) → AreAsked old new result → map g new.flights ≡ map g old.flights
+  asked_flights old new (Ok None) spent =
+      map_alike g old.flights new.flights spent.count
+      (λ k d less. handout_same (slice_index_or old.flights k d) (slice_index_or new.flights k d) (Ok None) (spent.spent k d less))
+  asked_flights old new (Ok (Some h)) hands = hands_same old new (Ok (Some h)) hands
+  asked_flights old new (Err e) hands = hands_same old new (Err e) hands
+
+asked_pictures : (old new : Future) (result : Result (Option Handed) NoRoom) → AreAsked old new result → new.pictures ≡ old.pictures
+asked_pictures old new (Ok None) spent = spent.pictures
+asked_pictures old new (Ok (Some h)) hands = hands.asked.pictures ∙ hands.pictures
+asked_pictures old new (Err e) hands = hands.asked.pictures ∙ hands.pictures
+
 asked_shape : (result : Result (Option (Claims × Seat)) NoRoom) (read : ℕ) (f : Flying) → shape_of_flight (asked_for result read f) ≡ shape_of_flight f
 asked_shape (Ok (Some out)) read f = refl
 asked_shape (Ok None) read f = refl
 asked_shape (Err none) read f = refl
 
-handout_shape : (f g : Flying) (result : Result (Option (Claims × Seat)) NoRoom) → IsHandout f g result → shape_of_flight g ≡ shape_of_flight f
-handout_shape f g result handout = ap shape_of_flight handout.now ∙ asked_shape result handout.read f
-
-asked_same : (place : ℕ) (old new : Future) (result : Result (Option Handed) NoRoom) → IsAsked place old new result → SameFrames old new
-asked_same place old new result asked = record {
-  flights =
-      ap (map shape_of_flight) asked.flights
-      ∙ map_set shape_of_flight old.flights place asked.before asked.after asked.there (handout_shape asked.before asked.after (seats_of result) asked.handout);
-  pictures = ap (map shape_of_picture) asked.pictures;
-}
-
-spent_same : (place : ℕ) (old between : Future) → AreSpent place old.flights between.flights → length between.flights ≡ length old.flights → drop place between.flights ≡ drop place old.flights →
-    map shape_of_flight between.flights ≡ map shape_of_flight old.flights
-spent_same place old between spent count behind = map_alike shape_of_flight old.flights between.flights count (λ k d less. by k d (cases_lt k place))
-  where
-    later : (k : ℕ) (d : Flying) → place + (k - place) ≡ k → slice_index_or between.flights k d ≡ slice_index_or old.flights k d
-    later k d at_k =
-        ap (λ n. slice_index_or between.flights n d) (sym at_k) ∙ sym (get_or-drop place between.flights (k - place) d)
-        ∙ ap (λ fs. slice_index_or fs (k - place) d) behind ∙ get_or-drop place old.flights (k - place) d ∙ ap (λ n. slice_index_or old.flights n d) at_k
-
-    by : (k : ℕ) (d : Flying) → (k < place) ⊎ (place ≤ k) → shape_of_flight (slice_index_or between.flights k d) ≡ shape_of_flight (slice_index_or old.flights k d)
-    by k d (inl before) = handout_shape (slice_index_or old.flights k d) (slice_index_or between.flights k d) (Ok None) (spent k d before)
-    by k d (inr behind_) = ap shape_of_flight (later k d (omega (arith, behind_)))
-
-same_both : (old between new : Future) → SameFrames old between → SameFrames between new → SameFrames old new
-same_both old between new first second = record { flights = second.flights ∙ first.flights; pictures = second.pictures ∙ first.pictures }
-
-hands_same : (old new : Future) (result : Result (Option Handed) NoRoom) → HandsOut old new result → SameFrames old new
-hands_same old new result hands =
-    same_both old hands.between new
-    (record { flights = spent_same hands.place old hands.between hands.spent hands.count hands.behind; pictures = ap (map shape_of_picture) hands.pictures })
-    (asked_same hands.place hands.between new result hands.asked)
-
 pub asking_leaves : (old new : Future) (result : Result (Option Handed) NoRoom) → AreAsked old new result → SameFrames old new
-asking_leaves old new (Ok None) spent = record {
-  flights =
-      map_alike shape_of_flight old.flights new.flights spent.count
-      (λ k d less. handout_shape (slice_index_or old.flights k d) (slice_index_or new.flights k d) (Ok None) (spent.spent k d less));
-  pictures = ap (map shape_of_picture) spent.pictures;
+asking_leaves old new result asked = record {
+  flights = asked_flights shape_of_flight asked_shape old new result asked;
+  pictures = ap (map shape_of_picture) (asked_pictures old new result asked);
 }
-asking_leaves old new (Ok (Some h)) hands = hands_same old new (Ok (Some h)) hands
-asking_leaves old new (Err e) hands = hands_same old new (Err e) hands
 
 -- what stood stands
-there : {X Y : Type 0} (P : Y → Type 0) (f : X → Y) (xs : List X) → AllByRecursion (λ x. P (f x)) xs → AllByRecursion P (map f xs)
+pub there : {X Y : Type 0} (P : Y → Type 0) (f : X → Y) (xs : List X) → AllByRecursion (λ x. P (f x)) xs → AllByRecursion P (map f xs)
 there P f [] all = tt
 there P f (x ∷ xs) all = (all.0, there P f xs all.1)
 
-back : {X Y : Type 0} (P : Y → Type 0) (f : X → Y) (xs : List X) → AllByRecursion P (map f xs) → AllByRecursion (λ x. P (f x)) xs
+pub back : {X Y : Type 0} (P : Y → Type 0) (f : X → Y) (xs : List X) → AllByRecursion P (map f xs) → AllByRecursion (λ x. P (f x)) xs
 back P f [] all = tt
 back P f (x ∷ xs) all = (all.0, back P f xs all.1)
 

@@ -112,19 +112,19 @@ none_ended (f ∷ fs) (x ∷ reads) read none = by (is_end f x) none (none_ended
     by true none rest = absurd cc
     by false none rest = ap (λ rs. run_of f ∷ rs) (rest none)
 
+pub looked_runs : (last : ℕ) (old new : Future) → AreSeen last old new None → runs_of old.flights ≡ runs_of new.flights
+looked_runs last old new s =
+    ap runs_of s.there ∙ three s.passed s.seen s.behind
+    ∙ sym (ap runs_of s.flights ∙ three s.passed (left_by s.seen s.reads) s.behind
+    ∙ ap (λ rs. runs_of s.passed ++ (rs ++ runs_of s.behind)) (none_ended s.seen s.reads s.read s.over.0))
+
 pub looked_stands : (history : History) (last : ℕ) (old new : Future) → AreSeen last old new None → FramesStand history old → FramesStand history new
 looked_stands history last old new s stand = record {
   open_ = stand.open_;
-  stands = subst (λ rs. Standing history rs new.pictures) runs (subst (Standing history (runs_of old.flights)) pictures stand.stands);
+  stands = subst (λ rs. Standing history rs new.pictures) (looked_runs last old new s) (subst (Standing history (runs_of old.flights)) pictures stand.stands);
   shows = seen_shows history last old new None s stand.shows;
   lent = subst (AreLent history) pictures stand.lent;
 }
   where
-    runs : runs_of old.flights ≡ runs_of new.flights
-    runs =
-        ap runs_of s.there ∙ three s.passed s.seen s.behind
-        ∙ sym (ap runs_of s.flights ∙ three s.passed (left_by s.seen s.reads) s.behind
-        ∙ ap (λ rs. runs_of s.passed ++ (rs ++ runs_of s.behind)) (none_ended s.seen s.reads s.read s.over.0))
-
     pictures : old.pictures ≡ new.pictures
     pictures = sym (s.pictures ∙ ap (λ fs. old.pictures ++ pictures_of fs) s.over.0 ∙ append-nil old.pictures)

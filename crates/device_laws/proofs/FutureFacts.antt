@@ -91,7 +91,7 @@ stopped_in frame claims f (g ∷ fs) found single = by (is_flight_of frame g) re
         ∙ ap (λ r. r ∷ stopped_runs frame (runs_of fs)) (sym (stays frame g is))
 
 -- where the frame has a going flight, it is counted
-found_counts : {X : Type 0} (p : X → Bool) (xs : List X) (x : X) → find p xs ≡ Some x → 1 ≤ count_by p xs
+pub found_counts : {X : Type 0} (p : X → Bool) (xs : List X) (x : X) → find p xs ≡ Some x → 1 ≤ count_by p xs
 found_counts p [] x found = absurd cc
 found_counts p (y ∷ xs) x found = by (p y) refl found (found_counts p xs x)
   where

@@ -103,7 +103,7 @@ nothing_mapped history future h lent none = by (shown_by future h) refl
         none_lent p.loans one.0.count (λ c. one.0.loans c ∙ ap (λ ms. loan_in ms c) mapped)
 
 -- what a granted render and a granted map say of their frame
-no_length : {X : Type 0} (xs : List X) → nat_lt 0 (length xs) ≡ false → xs ≡ []
+pub no_length : {X : Type 0} (xs : List X) → nat_lt 0 (length xs) ≡ false → xs ≡ []
 no_length [] is = refl
 no_length (x ∷ xs) is = absurd (let wrong : nat_lt 0 (length (x ∷ xs)) ≡ true = grind (arith, nat_tests) in let no : true ≡ false = sym wrong ∙ is in cc)
 

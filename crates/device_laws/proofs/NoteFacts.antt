@@ -32,13 +32,13 @@ use Rattle.device_laws.specs.Renders.{Renders}
 use Rattle.device_laws.specs.Standing.{AreLeft, LeavesPicturesBy, Standing, pictures_left}
 
 -- runs among which one ended, and those that are left
-record IsWithout (runs left : List Run) (r : Run) : Type 0 where
-  before : List Run
-  behind : List Run
-  there : runs ≡ before ++ r ∷ behind
-  rest : left ≡ before ++ behind
+pub record IsWithout (runs left : List Run) (r : Run) : Type 0 where
+  pub before : List Run
+  pub behind : List Run
+  pub there : runs ≡ before ++ r ∷ behind
+  pub rest : left ≡ before ++ behind
 
-abbrev first_of : Flying → List Flying → Flying
+abbrev pub first_of : Flying → List Flying → Flying
 first_of d [] = d
 first_of d (f ∷ fs) = f
 
@@ -131,34 +131,45 @@ module _ (history : History) (old : Future) (f : Flying) (before behind : List R
       shows
       (subst (λ ps. AreLent (history ++ note_of_run (run_of f) ∷ []) (pictures_left (λ h. not (has h dead)) ps)) (sym pictures) (noted_lent (λ h. not (has h dead)) legal leaves lent))
 
--- the flight that a look showed to be over
+-- the flight that a look showed to be over, its note, and the runs that are left
+module _ (last : ℕ) (old looked : Future) (e : Ended) (s : AreSeen last old looked (Some e)) where
+  abbrev pub ended : Flying
+  ended = s.over.0
+
+  pub ended_note : note_of_run (run_of ended) ≡ note_of_end e
+  ended_note = ap (λ b. cond b (Left ended.ticket) (FinishedAt ended.ticket)) (sym s.over.4) ∙ ap (λ t. cond e.left (Left t) (FinishedAt t)) (sym s.over.3)
+
+  pub ended_without : IsWithout (runs_of old.flights) (runs_of looked.flights) (run_of ended)
+  ended_without =
+      let w : IsWithout (runs_of s.passed ++ (runs_of s.seen ++ runs_of s.behind)) (runs_of s.passed ++ (runs_of (left_by s.seen s.reads) ++ runs_of s.behind)) (run_of ended) =
+      wider (runs_of s.seen) (runs_of (left_by s.seen s.reads)) (run_of ended) (runs_of s.passed) (runs_of s.behind) (one_ended s.seen s.reads ended s.read s.over.1) in
+      record {
+        before = w.before;
+        behind = w.behind;
+        there = ap runs_of s.there ∙ three s.passed s.seen s.behind ∙ w.there;
+        rest = ap runs_of s.flights ∙ three s.passed (left_by s.seen s.reads) s.behind ∙ w.rest;
+      }
+
+  pub ended_apart : Rising (map (λ f. f.ticket) old.flights) → has ended.ticket (tickets_in (ended_without.before ++ ended_without.behind)) ≡ false
+  ended_apart rising =
+      let tickets : AreApart (tickets_in ended_without.before ++ ended.ticket ∷ tickets_in ended_without.behind) =
+      subst AreApart (sym (tickets_of_runs old.flights) ∙ ap tickets_in ended_without.there ∙ map-append (λ (r : Run). r.ticket) ended_without.before (run_of ended ∷ ended_without.behind))
+      (rising_apart (map (λ f. f.ticket) old.flights) rising) in
+      ap (has ended.ticket) (map-append (λ (r : Run). r.ticket) ended_without.before ended_without.behind)
+      ∙ (apart_middle (tickets_in ended_without.before) ended.ticket (tickets_in ended_without.behind) tickets).0
+
 pub note_kept : (history : History) (last : ℕ) (old looked : Future) (e : Ended) (dead : List ℕ) → Legal history → Rising (map (λ f. f.ticket) old.flights) → Flown history (runs_of old.flights) →
     AreSeen last old looked (Some e) → LeavesBut history (note_of_end e) dead → FramesStand history old → FramesStand (history ++ note_of_end e ∷ []) (without_pictures looked dead)
 note_kept history last old looked e dead legal rising flown s leaves stand =
-    subst (λ n. LeavesBut history n dead → FramesStand (history ++ n ∷ []) (without_pictures looked dead)) same
-    (λ leaves. noted history old f w.before w.behind (subst (Flown history) there flown) (subst (λ rs. Standing history rs old.pictures) there stand.stands)
-    looked dead legal apart leaves stand.open_ stand.lent
-    (ap runs_of s.flights ∙ three s.passed (left_by s.seen s.reads) s.behind ∙ w.rest)
+    subst (λ n. LeavesBut history n dead → FramesStand (history ++ n ∷ []) (without_pictures looked dead)) (ended_note last old looked e s)
+    (λ leaves. noted history old f w.before w.behind (subst (Flown history) w.there flown) (subst (λ rs. Standing history rs old.pictures) w.there stand.stands)
+    looked dead legal (ended_apart last old looked e s rising) leaves stand.open_ stand.lent w.rest
     (s.pictures ∙ ap (λ fs. old.pictures ++ pictures_of fs) s.over.1)
     (seen_shows (history ++ note_of_run (run_of f) ∷ []) last old looked (Some e) s (renders_stay history (note_of_run (run_of f) ∷ []) old flown stand.stands stand.shows)))
     leaves
   where
     f : Flying
-    f = s.over.0
+    f = ended last old looked e s
 
-    same : note_of_run (run_of f) ≡ note_of_end e
-    same = ap (λ b. cond b (Left f.ticket) (FinishedAt f.ticket)) (sym s.over.4) ∙ ap (λ t. cond e.left (Left t) (FinishedAt t)) (sym s.over.3)
-
-    w : IsWithout (runs_of s.passed ++ (runs_of s.seen ++ runs_of s.behind)) (runs_of s.passed ++ (runs_of (left_by s.seen s.reads) ++ runs_of s.behind)) (run_of f)
-    w = wider (runs_of s.seen) (runs_of (left_by s.seen s.reads)) (run_of f) (runs_of s.passed) (runs_of s.behind) (one_ended s.seen s.reads f s.read s.over.1)
-
-    there : runs_of old.flights ≡ w.before ++ run_of f ∷ w.behind
-    there = ap runs_of s.there ∙ three s.passed s.seen s.behind ∙ w.there
-
-    tickets : AreApart (tickets_in w.before ++ f.ticket ∷ tickets_in w.behind)
-    tickets =
-        subst AreApart (sym (tickets_of_runs old.flights) ∙ ap tickets_in there ∙ map-append (λ (r : Run). r.ticket) w.before (run_of f ∷ w.behind))
-        (rising_apart (map (λ f. f.ticket) old.flights) rising)
-
-    apart : has f.ticket (tickets_in (w.before ++ w.behind)) ≡ false
-    apart = ap (has f.ticket) (map-append (λ (r : Run). r.ticket) w.before w.behind) ∙ (apart_middle (tickets_in w.before) f.ticket (tickets_in w.behind) tickets).0
+    w : IsWithout (runs_of old.flights) (runs_of looked.flights) (run_of f)
+    w = ended_without last old looked e s

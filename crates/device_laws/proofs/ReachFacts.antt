@@ -46,7 +46,7 @@ flew_before place (Left u) t flew other is = and_right (not (u == t)) flew is
 flew_before place e t flew other is = is
 
 -- what a flight reached, by what is carried
-reached_of : (reached : List (ℕ × List ℕ)) (t h : ℕ) (hs : Option (List ℕ)) → at t reached ≡ hs → is_reached_by reached t h ≡ true → has h (unwrap_or hs []) ≡ true
+pub reached_of : (reached : List (ℕ × List ℕ)) (t h : ℕ) (hs : Option (List ℕ)) → at t reached ≡ hs → is_reached_by reached t h ≡ true → has h (unwrap_or hs []) ≡ true
 unfolding is_reached_by
 reached_of reached t h hs is reaches = sym (ap (λ x. has h (unwrap_or x [])) is) ∙ reaches
 

@@ -70,7 +70,7 @@ render_begins history actor f key channels shows asked = record {
 }
 
 -- tickets of pictures are places
-done_is_early : (history : History) (h t : ℕ) → phase_at (after history) h ≡ Done t → t ≤ length history
+pub done_is_early : (history : History) (h t : ℕ) → phase_at (after history) h ≡ Done t → t ≤ length history
 done_is_early history h t = by (object_at (after history).state h) refl
   where
     by : (x : Option Object) → object_at (after history).state h ≡ x → option_map_or (λ (o : Object). o.phase) x Empty ≡ Done t → t ≤ length history

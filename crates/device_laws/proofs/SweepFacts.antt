@@ -41,10 +41,10 @@ pub rising_apart : (ts : List ℕ) → Rising ts → AreApart ts
 rising_apart [] rising = tt
 rising_apart (t ∷ ts) rising = (above t ts rising.0, rising_apart ts rising.1)
 
-has_joined : (t : ℕ) (xs ys : List ℕ) → has t (xs ++ ys) ≡ (has t xs || has t ys)
+pub has_joined : (t : ℕ) (xs ys : List ℕ) → has t (xs ++ ys) ≡ (has t xs || has t ys)
 has_joined t xs ys = list_any-append (λ k. k == t) xs ys
 
-none_of : (a b : Bool) → (a || b) ≡ false → (a ≡ false) × (b ≡ false)
+pub none_of : (a b : Bool) → (a || b) ≡ false → (a ≡ false) × (b ≡ false)
 none_of true b is = absurd cc
 none_of false b is = (refl, is)
 

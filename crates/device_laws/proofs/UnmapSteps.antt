@@ -31,7 +31,7 @@ use Rattle.device_laws.specs.Lent.{AreLent, IsLent, loan_in}
 use Rattle.device_laws.specs.Showings.{showing_at, with_channels}
 use Rattle.device_laws.specs.Standing.{AreLeft, pictures_left}
 
-itself : (c : Channel) → is_same_channel c c ≡ true
+pub itself : (c : Channel) → is_same_channel c c ≡ true
 itself Color = refl
 itself PrimitiveId = refl
 itself ObjectId = refl

@@ -3,7 +3,9 @@ pub mod FlightMoves
 pub mod Flown
 pub mod FramesStand
 pub mod Lent
+pub mod Over
 pub mod Renders
+pub mod Replies
 pub mod SameFrames
 pub mod Showings
 pub mod Standing

@@ -1,6 +1,7 @@
 //! What one entry more makes of a state: each law is the contract of a function that does nothing.
 ghost use Rattle.std.specs.Prelude.{◌≡◌, ◌<◌, ◌+◌, ◌++◌, ◌∷◌, [], ℕ, Bool, Some, false, length, true};
 ghost use Rattle.std.specs.List.{filter};
+ghost use Rattle.std.specs.Map.{keys_of};
 ghost use Rattle.std.specs.Option.{is_some};
 ghost use Rattle.past_laws.specs.HeldUp.{IsHeldUp};
 ghost use Rattle.seq_model.specs.Deaths.{changed_by, lives_itself};
@@ -9,9 +10,12 @@ ghost use Rattle.seq_model.specs.Legal.{Legal};
 ghost use Rattle.seq_model.specs.Life.{has, is_root, live};
 ghost use Rattle.seq_model.specs.State.{Object, flights, object_at};
 ghost use Rattle.seq_model.specs.Steps.{after, is_reached};
+ghost use Rattle.seq_model.specs.Told.{gone};
 ghost use Rattle.seq_model.specs.declared.calls.Entry.{Entry};
+ghost use Rattle.seq_model.specs.declared.calls.Entry.TheVariants.{Closed};
 ghost use Rattle.device_laws.specs.Changing.{changes};
 ghost use Rattle.device_laws.specs.FlightMoves.{flies_after, stopped_after};
+ghost use Rattle.device_laws.specs.FramesStand.{LeavesBut};
 ghost use Rattle.device_laws.specs.Showings.{showing_after, showing_at};
 
 /// What an entry makes of what a frame shows, and of its mapped channels: a render begins a flight, a
@@ -59,4 +63,12 @@ pub fn burials_leave_what_lives()
         → Legal (history ++ e ∷ [])
         → IsHeldUp (lives_itself history e) keep (changed_by history e).objects
         → record (changed_by history e) { objects = filter keep (changed_by history e).objects } ≡ (after (history ++ e ∷ [])).state }
+{}
+
+/// Of the objects that were there, an entry that is not the close leaves all but those that go with
+/// it, which are there after its change and do not live any more.
+pub fn burials_leave_all_but_what_goes()
+    ensures { (history : History) (e : Entry)
+        → (e ≡ Closed → ⊥)
+        → LeavesBut history e (keys_of (gone (changed_by history e) (after (history ++ e ∷ [])).state)) }
 {}

@@ -4,6 +4,7 @@ ghost use Rattle.std.specs.Prelude.{◌≡◌, ◌==◌, ◌||◌, ◌+◌, ◌+
 ghost use Rattle.std.specs.Option.{is_some};
 ghost use Rattle.dev_types.specs.declared.data_types.DataType.{DataType};
 ghost use Rattle.dev_types.specs.declared.handles.Channel.{Channel};
+ghost use Rattle.dev_types.specs.declared.refusals.Refused.{Refused};
 ghost use Rattle.flight_books.specs.Sweeps.{notes_of};
 ghost use Rattle.frame_future.specs.Flights.{Flying};
 ghost use Rattle.frame_future.specs.Future.{Finished, Future, IsDiscarded, IsKept, Rising, flight_of, phase_of};
@@ -15,12 +16,14 @@ ghost use Rattle.seq_model.specs.Life.{has};
 ghost use Rattle.seq_model.specs.Refusals.{mapped_at, phase_at};
 ghost use Rattle.seq_model.specs.State.{Flight, flights, object_at};
 ghost use Rattle.seq_model.specs.Steps.{after, is_reached_by};
+ghost use Rattle.seq_model.specs.declared.calls.Call.{Call};
 ghost use Rattle.seq_model.specs.declared.calls.Call.TheVariants.{DiscardFrame, MapFrame};
 ghost use Rattle.seq_model.specs.declared.calls.Entry.{Entry};
 ghost use Rattle.seq_model.specs.declared.calls.Entry.TheVariants.{Called};
 ghost use Rattle.seq_model.specs.declared.calls.Reply.TheVariants as reply;
 ghost use Rattle.device_laws.specs.FlightMoves.{moves_flights};
 ghost use Rattle.device_laws.specs.Flown.{Flown, IsNoted, LetsNotes, Run, note_of_run, runs_of, stopped_runs, tickets_in};
+ghost use Rattle.device_laws.specs.Lent.{moves_channels};
 ghost use Rattle.device_laws.specs.Standing.{AreLeft, LeavesPictures, Standing, other_pictures, phase_as, pictures_left};
 
 /// Where nothing happened yet, no frame is in flight or done.
@@ -107,6 +110,13 @@ pub fn other_entries_keep_the_flights()
         → AreLeft history e left
         → Standing history runs pictures
         → Standing (history ++ e ∷ []) runs (pictures_left left pictures) }
+{}
+
+/// A call that was refused begins, ends and stops no flight, maps no channel and takes none back.
+pub fn refused_calls_move_nothing()
+    ensures { (actor : ℕ) (call : Call) (refused : Refused)
+        → (moves_flights (Called actor call (reply.Denied refused)) ≡ false)
+        × (moves_channels (Called actor call (reply.Denied refused)) ≡ false) }
 {}
 
 /// Where what is kept of frames stands as the history says, each frame is in flight, done or neither

@@ -19,6 +19,15 @@ is_object_call (ObjectInfo t subtype) = false
 is_object_call (ParameterInfo t subtype name) = false
 is_object_call call = true
 
+-- the call does something to a frame's flight or picture, or asks of them
+abbrev pub is_frame_call : Call → Bool
+is_frame_call (RenderFrame h) = true
+is_frame_call (FrameReady h wait) = true
+is_frame_call (DiscardFrame h) = true
+is_frame_call (MapFrame h channel) = true
+is_frame_call (UnmapFrame h number) = true
+is_frame_call call = false
+
 -- a history with one call more
 abbrev pub with_call : History → ℕ → Call → Reply → History
 with_call history actor call r = history ++ Called actor call r ∷ []

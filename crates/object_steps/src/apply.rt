@@ -111,6 +111,19 @@ impl ObjectStore {
             return Err(NoMemory);
         };
         client.reserve(alloc, notices)?;
+        self.make_ready(alloc, call)
+    }
+
+    /// Makes room for the object that a call makes, if it makes one.
+    ///
+    /// # Errors
+    /// `NoMemory`; all is then as it was.
+    pub fn make_ready(&mut self, alloc: Global, call: &Call) -> Result<(), NoMemory>
+        ensures ready { OnOk result (HasRoom self.new.stored call.now) }
+        ensures same { self.new ≡ record self.old {
+          stored = record self.old.stored { ready = self.new.stored.ready };
+        } }
+    {
         match call {
             Call::NewObject { .. } | Call::NewArray { .. } | Call::UnmapParameterArray { .. } => {
                 self.make_room(alloc)

@@ -1,4 +1,4 @@
-use Rattle.std.proofs.Common.{◌≡◌, ◌∙◌, ℕ, ◌+◌, ◌<◌, ◌≤◌, true, List, [], ◌∷◌, ◌++◌, length, refl, sym, ap, subst}
+use Rattle.std.proofs.Common.{◌≡◌, ◌∙◌, ℕ, ◌+◌, ◌<◌, ◌≤◌, true, [], ◌∷◌, ◌++◌, length, refl, sym, ap, subst}
 use Rattle.std.specs.Prelude.{slice_index_or, vec_capacity}
 use Rattle.std.specs.List.{AllByRecursion, filter_map}
 use Rattle.std.specs.Map.{keys_of}
@@ -6,7 +6,6 @@ use Rattle.std.proofs.lemmas.List.{append-nil}
 use Rattle.dev_types.specs.Counting.{times}
 use Rattle.flight_books.specs.Kept.{Books}
 use Rattle.frame_future.specs.Flights.{Flying}
-use Rattle.frame_future.specs.Future.{Future}
 use Rattle.object_store.specs.Gathers.{IsLeft, buried}
 use Rattle.object_store.specs.Kept.{CountsItsObjects, number_at}
 use Rattle.object_steps.specs.Objects.{Objects}
@@ -16,7 +15,6 @@ use Rattle.seq_model.specs.Steps.{after, next_place}
 use Rattle.seq_model.specs.Told.{end_of_object, gone}
 use Rattle.device_laws.specs.Flown.{Flown, runs_of}
 use Rattle.device_core.specs.AllParts.{AreParts, Inside, IsLoaded}
-use Rattle.device_core.specs.Ends.{IsOwn}
 use Rattle.device_core.specs.Holds.{held_less, with_holds}
 use Rattle.device_core.specs.Notes.{HasNoted, HasNotedNothing, note}
 use Rattle.device_core.specs.declared.loads.Load.{Load}

@@ -1,14 +1,12 @@
-use Rattle.std.proofs.Common.{◌≡◌, ◌∙◌, ◌+◌, ◌++◌, ◌∷◌, ◌<◌, ◌≤◌, List, [], length, length-append, refl, sym, ap, subst, arith}
+use Rattle.std.proofs.Common.{◌∙◌, ◌+◌, ◌++◌, ◌<◌, ◌≤◌, length, length-append, sym, ap, subst, arith}
 use Rattle.std.proofs.lemmas.List.{append_assoc}
 use Rattle.std.specs.List.{AllByRecursion, filter_map}
-use Rattle.dev_types.specs.declared.notices.Notice.{Notice}
 use Rattle.flight_books.proofs.CargoLaws.{firsts}
 use Rattle.frame_future.specs.Flights.{Flying}
 use Rattle.object_store.specs.Ends.{notice_of}
 use Rattle.object_steps.specs.Objects.{tellable}
 use Rattle.seq_model.specs.Told.{told}
 use Rattle.device_core.specs.AllParts.{Inside}
-use Rattle.device_core.specs.Notes.{HasNoted}
 use Rattle.device_core.specs.Standing.{IsStanding}
 use Rattle.device_core.proofs.SweepFacts.{IsSweeping, noted_tells, sweeping_begins, sweeping_fewer, sweeping_on, sweeping_over}
 use Rattle.device_core.proofs.parts.Parts.sweep.Goals as goal

@@ -17,4 +17,4 @@ invariant_of-self c = by c.discard.result c.discard.ensures.ok c.discard.ensures
     by (Ok v) ok err = subst (λ s. HasPlaces s c.self.inside.dead c.self.inside.count c.self.inside.tellable (vec_capacity c.self.inside.departed)) (sym ok)
         (places_discarded c.args.h c.discard.new.self.places old c.self.inside.dead c.self.inside.count c.self.inside.tellable (vec_capacity c.self.inside.departed) c.self.invariant)
     by (Err e) ok err = subst (λ s. HasPlaces s c.self.inside.dead c.self.inside.count c.self.inside.tellable (vec_capacity c.self.inside.departed)) (sym err)
-        (record { number = c.self.invariant.number; tellable = c.self.invariant.tellable; ends = c.self.invariant.ends; handles = c.self.invariant.handles; })
+        (record { number = c.self.invariant.number; tellable = c.self.invariant.tellable; ends = c.self.invariant.ends; handles = c.self.invariant.handles })
