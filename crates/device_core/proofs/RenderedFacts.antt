@@ -262,7 +262,7 @@ module _ (old : Inside) (actor f : ℕ) (p : AreParts old) (legal : Legal (old.h
         fewer = (let parts = fewer_told moved_now new.objects.stored is_left in let dead = ap length notices in
             let same = plain_tellable f (set_phase (Flight (length old.history + 1))) old.objects.stored.state (λ o. refl) in
             omega (arith, parts, dead, same));
-        room = room;
+        room = omega (arith, room);
       }
 
       pub rendered_begins : HasBegun f old new
