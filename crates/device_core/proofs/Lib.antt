@@ -1,6 +1,7 @@
 -- Lemmas of this crate.
 pub mod BeginFacts
 pub mod CalledFacts
+pub mod DiscardFacts
 pub mod EndFacts
 pub mod EntryFacts
 pub mod FollowFacts

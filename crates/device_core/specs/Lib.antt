@@ -7,5 +7,6 @@ pub mod Standing
 pub mod Notes
 pub mod Begins
 pub mod Calls
+pub mod Discards
 pub mod Renders
 pub mod Sweeps

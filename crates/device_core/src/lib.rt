@@ -5,6 +5,7 @@
 mod begins;
 mod burials;
 mod calls;
+mod discards;
 mod ends;
 mod holds;
 mod loads;

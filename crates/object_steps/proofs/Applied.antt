@@ -1,6 +1,6 @@
 -- A call on objects leads from a store at rest to a store at rest.
-use Rattle.std.proofs.Common.{ℕ, ◌+◌, ◌≡◌, ◌<◌, ◌≤◌, ◌^◌, ◌∙◌, not, Bool, true, false, List, [], ◌∷◌, Option, Some, None, length, refl, sym, ap, subst, arith}
-use Rattle.std.specs.Option.{IsSome, MatchOption, is_some, option_map, option_to_list}
+use Rattle.std.proofs.Common.{ℕ, ◌+◌, ◌≡◌, ◌<◌, ◌≤◌, ◌^◌, ◌∙◌, true, false, List, Option, Some, None, length, refl, sym, subst, arith}
+use Rattle.std.specs.Option.{MatchOption, option_map, option_to_list}
 use Rattle.dev_types.specs.Refusals.{status_of}
 use Rattle.dev_types.specs.declared.handles.Origin.TheVariants.{Captured, Managed, Shared}
 use Rattle.dev_types.specs.declared.notices.Notice.{Notice}

@@ -7,7 +7,6 @@ use Rattle.seq_model.specs.Steps.{Past}
 use Rattle.seq_model.specs.declared.calls.Call.{Call}
 use Rattle.seq_model.specs.declared.calls.Call.TheVariants.{UnmapArray, UnmapParameterArray}
 use Rattle.object_steps.specs.Resting.{past_of}
-use Rattle.object_steps.proofs.Standings.{led}
 use Rattle.object_steps.proofs.deciding.decide.Goals as goal
 
 -- a call that is entered shows what it showed, and waits for what it waited for

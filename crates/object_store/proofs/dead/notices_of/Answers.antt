@@ -1,8 +1,7 @@
-use Rattle.std.proofs.Common.{◌≡◌, ◌∙◌, ◌+◌, ◌≤◌, [], ◌∷◌, Some, length, take, refl, sym, ap, arith}
+use Rattle.std.proofs.Common.{◌∙◌, [], ◌∷◌, Some, length, take, sym, ap, arith}
 use Rattle.std.specs.List.{filter_map}
 use Rattle.std.proofs.lemmas.List.{length-take}
 use Rattle.std.proofs.lemmas.Option.{slice_get-get_or}
-use Rattle.std.specs.Option.{option_to_list}
 use Rattle.object_store.specs.Ends.{notice_of}
 use Rattle.object_store.proofs.MoveFacts.{one_more}
 use Rattle.object_store.proofs.Reversed.{collected_more, front_collected, one_of}

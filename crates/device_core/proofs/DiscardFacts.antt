@@ -1,0 +1,129 @@
+-- What always holds of the parts of a device holds once a frame is discarded.
+use Rattle.std.proofs.Common.{◌≡◌, ◌∙◌, ℕ, ◌+◌, ◌<◌, Bool, true, false, List, [], ◌∷◌, ◌++◌, Option, None, Some, length, length-append, map, refl, sym, ap, subst, arith}
+use Rattle.std.specs.List.{AllByRecursion, filter_map}
+use Rattle.std.specs.Map.{keys_of}
+use Rattle.std.specs.Option.{IsSome, is_some, option_map_or}
+use Rattle.std.proofs.lemmas.List.{length-map}
+use Rattle.flight_books.specs.Kept.{Books}
+use Rattle.frame_future.specs.Future.{Future, IsDiscarded, IsKept, flight_of}
+use Rattle.kept_worlds.proofs.LastFacts.{stay_known}
+use Rattle.kept_worlds.specs.KeptMaps.{kept_at, reach_at}
+use Rattle.kept_worlds.specs.LastKept.{AreKept, is_there}
+use Rattle.object_store.specs.Ends.{notice_of}
+use Rattle.object_store.specs.Gathers.{IsLeft, buried}
+use Rattle.object_store.specs.Kept.{CountsItsObjects, Stored}
+use Rattle.object_store.proofs.DeadSteps.{has_key}
+use Rattle.object_steps.specs.Objects.{tellable}
+use Rattle.object_steps.specs.Resting.{Follows, reaches}
+use Rattle.object_steps.proofs.ReachLaws.{reaches_of_a_call, references_stay}
+use Rattle.object_steps.proofs.Rested.{ends_told}
+use Rattle.object_steps.proofs.Tellables.{fewer_told, plain_tellable}
+use Rattle.seq_model.specs.Histories.{History}
+use Rattle.seq_model.specs.Legal.{Legal}
+use Rattle.seq_model.specs.Life.{has}
+use Rattle.seq_model.specs.State.{Empty, Object, State, changed_at, object_at}
+use Rattle.seq_model.specs.Steps.{after, change, discard, effect, next_place, set_phase, step}
+use Rattle.seq_model.specs.Told.{end_of_object, gone, status_at}
+use Rattle.seq_model.specs.declared.calls.Call.TheVariants.{DiscardFrame}
+use Rattle.seq_model.specs.declared.calls.Entry.{Entry}
+use Rattle.seq_model.specs.declared.calls.Entry.TheVariants.{Called, Closed}
+use Rattle.seq_model.specs.declared.calls.Reply.TheVariants as reply
+use Rattle.seq_model.proofs.Came.{stop_objects}
+use Rattle.seq_model.proofs.Changes.{keys_of_changed}
+use Rattle.device_laws.specs.Flown.{Flown, run_of, runs_of, stopped_run}
+use Rattle.device_laws.specs.FramesStand.{FramesStand, without_pictures}
+use Rattle.device_laws.proofs.CallFacts.{discard_kept}
+use Rattle.device_laws.proofs.FlyFacts.{discard_flown}
+use Rattle.device_laws.proofs.FramesStandFacts.{fewer_kept}
+use Rattle.device_laws.proofs.FutureFacts.{discarded_runs}
+use Rattle.device_core.specs.AllParts.{AreParts, Inside, IsLoaded}
+use Rattle.device_core.specs.Calls.{HasEntered}
+use Rattle.device_core.specs.Deaths.{all_but_those, unless_dead}
+use Rattle.device_core.specs.Standing.{IsStanding}
+use Rattle.device_core.specs.declared.loads.Load.{Load}
+use Rattle.device_core.proofs.CalledFacts.{called_lets}
+use Rattle.device_core.proofs.EntryFacts.{all_loaded, leaves, parts_after, same_builds}
+
+-- a discard leaves which objects there are, and of whose ends the client is to be told
+objects_are : (h : ℕ) (s : State) → (discard h s).objects ≡ (changed_at h (set_phase Empty) s).objects
+unfolding discard
+objects_are h s = stop_objects (option_map_or (λ o. o.phase) (object_at s h) Empty) (changed_at h (set_phase Empty) s)
+
+there_before : (h k : ℕ) (s : State) → IsSome (object_at (discard h s) k) → IsSome (object_at s k)
+there_before h k s there =
+    let same : is_some (object_at (discard h s) k) ≡ is_some (object_at s k) =
+    sym (has_key k (discard h s).objects) ∙ ap (λ (es : List (ℕ × Object)). has k (keys_of es)) (objects_are h s) ∙ ap (has k) (keys_of_changed h (set_phase Empty) s) ∙ has_key k s.objects in
+    is_there_if (object_at s k) (sym same ∙ is_some_if (object_at (discard h s) k) there)
+  where
+    is_some_if : (o : Option Object) → IsSome o → is_some o ≡ true
+    is_some_if None some = absurd cc
+    is_some_if (Some o) some = refl
+
+    is_there_if : (o : Option Object) → is_some o ≡ true → IsSome o
+    is_there_if None some = absurd cc
+    is_there_if (Some o) some = refl
+
+same_tellable : (h : ℕ) (s : State) → tellable (discard h s) ≡ tellable s
+same_tellable h s = ap (λ (es : List (ℕ × Object)). length (filter_map end_of_object es)) (objects_are h s) ∙ plain_tellable h (set_phase Empty) s (λ o. refl)
+
+-- and a discard of kept frames how many flights there are
+same_count : (h : ℕ) (old new : Future) → IsKept old → IsDiscarded h old new (flight_of old h) → length new.flights ≡ length old.flights
+same_count h old new kept discarded =
+    sym (length-map new.flights run_of) ∙ ap length (discarded_runs h old new kept discarded).0 ∙ length-map (runs_of old.flights) (stopped_run h) ∙ length-map old.flights run_of
+
+module _ (old : Inside) (actor h room : ℕ) (p : AreParts old) (legal : Legal (old.history ++ Called actor (DiscardFrame h) reply.Done ∷ [])) where
+  abbrev pub entry : Entry
+  entry = Called actor (DiscardFrame h) reply.Done
+
+  abbrev pub moved : Stored
+  moved = record old.objects.stored { state = discard h old.objects.stored.state; places = room }
+
+  pub discard_follows : Follows moved old.history entry
+  unfolding change effect
+  discard_follows = record {
+    legal = legal;
+    state = ap (discard h) p.rest.state;
+    public = λ k there. p.rest.public k (there_before h k old.objects.stored.state there) ∙ sym (references_stay old.history entry k legal tt);
+    holds = λ k.
+        p.rest.holds k ∙ ap (λ (s : State). reaches (after old.history).reached s k) p.rest.state
+        ∙ sym (reaches_of_a_call old.history k actor (DiscardFrame h) reply.Done refl)
+        ∙ ap (λ (s : State). reaches (step (after old.history) entry).reached (discard h s) k) (sym p.rest.state);
+  }
+
+  no_close : entry ≡ Closed → ⊥
+  no_close same = absurd cc
+
+  module _ (new : Inside) (mid : Future) (counted_moved : CountsItsObjects moved) (counted : CountsItsObjects new.objects.stored)
+      (is_left : IsLeft moved new.objects.stored) (is_buried : new.objects.stored.state ≡ buried moved)
+      (departed : new.objects.departed ≡ keys_of (gone moved.state new.objects.stored.state))
+      (grown : new.history ≡ old.history ++ entry ∷ [])
+      (kept : IsKept old.flights.future) (discarded : IsDiscarded h old.flights.future mid (flight_of old.flights.future h))
+      (flights : new.flights.future ≡ without_pictures mid new.objects.departed) (cargo : new.flights.cargo ≡ old.flights.cargo)
+      (forgotten : (w : ℕ) → kept_at new.worlds w ≡ unless_dead new.objects.departed w (kept_at old.worlds w))
+      (known : (history : History) (there : ℕ → Bool) → AreKept there history (reach_at old.worlds) → AreKept (all_but_those new.objects.departed there) history (reach_at new.worlds))
+      (same : new.builds ≡ old.builds) (same_room : new.room ≡ old.room) where
+    pub discard_parts : IsStanding old → length old.history + length old.flights.future.flights + 1 < old.room → AreParts new
+    discard_parts stands place = parts_after old new entry moved old.worlds p no_close discard_follows counted_moved counted is_left is_buried departed grown
+        (subst (λ (s : Future). Flown (old.history ++ entry ∷ []) (runs_of s.flights)) (sym flights)
+        (discard_flown old.history actor h old.flights.future mid new.objects.departed legal kept discarded p.flown))
+        (subst (AllByRecursion (IsLoaded (old.history ++ entry ∷ []))) (sym cargo) (all_loaded old.history entry old.flights.cargo p.loaded))
+        (called_lets old.history actor (DiscardFrame h) reply.Done stands.open_)
+        (stay_known old.history entry (is_there old.history) (reach_at old.worlds) refl (λ objects. refl) p.kept) p.shown forgotten known
+        (same ∙ p.built ∙ sym (same_builds old.history entry refl))
+        (let longer = ap length grown ∙ length-append old.history (entry ∷ []) in
+        let count = ap (λ (s : Future). length s.flights) flights ∙ ap length (fewer_kept mid new.objects.departed).0 ∙ same_count h old.flights.future mid kept discarded in
+        omega (arith, place, longer, count, same_room))
+
+    pub discard_stands : IsStanding old → IsStanding new
+    discard_stands stands =
+        subst (λ history. FramesStand history new.flights.future) (sym grown) (subst (FramesStand (old.history ++ entry ∷ [])) (sym flights)
+        (discard_kept old.history actor h old.flights.future mid new.objects.departed kept discarded p.flown
+        (leaves old.history entry moved new.objects.stored new.objects.departed no_close discard_follows counted_moved counted is_left is_buried departed) stands))
+
+    pub discard_enters : filter_map notice_of new.objects.dead ≡ filter_map end_of_object (gone moved.state new.objects.stored.state) → HasEntered actor (DiscardFrame h) reply.Done old new
+    discard_enters notices = record {
+      grown = grown;
+      told = notices ∙ sym (ends_told old.history entry moved discard_follows new.objects.stored.state is_buried no_close);
+      fewer = (let parts = fewer_told moved new.objects.stored is_left in let dead = ap length notices in let as_before = same_tellable h old.objects.stored.state in omega (arith, parts, dead, as_before));
+      room = (let room_is = same_room in omega (arith, room_is));
+    }
