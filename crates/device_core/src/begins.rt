@@ -189,7 +189,7 @@ impl Parts {
     ///
     /// # Errors
     /// `NoMemory`; all is then as it was.
-    pub(crate) fn render(
+    pub(crate) fn enter_render(
         &mut self,
         alloc: Global,
         actor: u32,

@@ -33,7 +33,7 @@ use Rattle.device_core.specs.Standing.{IsStanding}
 use Rattle.device_core.specs.declared.loads.Load.{Load}
 use Rattle.device_core.proofs.BeginFacts.{landed, later, unmapped}
 use Rattle.device_core.proofs.RenderedFacts.{current_now, follows_now, frame_there, granted_now, held_now, moved_now, reach_held, rendered_begins, rendered_enters, rendered_parts, rendered_stands}
-use Rattle.device_core.proofs.parts.Parts.render.Goals as goal
+use Rattle.device_core.proofs.parts.Parts.enter_render.Goals as goal
 
 as_number : (b : Bool) → bool_byte b ≡ cond b 1 0
 as_number true = refl
