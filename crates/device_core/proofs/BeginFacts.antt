@@ -1,14 +1,12 @@
 -- A flight that a render begins: it may begin, its objects are held, and the store in which it began is one entry further.
-use Rattle.std.proofs.Common.{◌≡◌, ◌∙◌, ◌⊎◌, inl, inr, ℕ, ◌+◌, ◌≤◌, ◌<◌, Bool, true, false, List, [], ◌∷◌, ◌++◌, Option, Some, None, length, map, refl, sym, ap, subst, cond, arith}
+use Rattle.std.proofs.Common.{◌≡◌, ◌∙◌, ◌⊎◌, inl, inr, ℕ, ◌+◌, ◌≤◌, ◌<◌, true, false, List, [], ◌∷◌, ◌++◌, Option, Some, None, length, map, refl, sym, ap, subst, arith}
 use Rattle.std.specs.Prelude.{IsSome, nat_lt}
 use Rattle.std.specs.List.{AllByRecursion}
-use Rattle.std.specs.Map.{keys_of}
-use Rattle.std.specs.Option.{is_some, option_map, option_map_or, unwrap_or}
+use Rattle.std.specs.Option.{is_some, option_map_or, unwrap_or}
 use Rattle.std.proofs.lemmas.Bool.{cases_eq}
 use Rattle.std.proofs.lemmas.Bool.Decides.{nat_tests}
 use Rattle.dev_types.specs.Counting.{times}
 use Rattle.dev_types.proofs.SumLaws.{times-more, times-other, times-same}
-use Rattle.dev_types.specs.declared.refusals.Refused.{Refused}
 use Rattle.dev_types.specs.declared.refusals.Refused.TheVariants.{ChannelMapped, InFlight}
 use Rattle.frame_future.specs.Flights.{Flying}
 use Rattle.frame_future.specs.Future.{Finished, Future, IsLater, flight_of, is_mapped, phase_by, shown_by}
@@ -25,19 +23,19 @@ use Rattle.seq_model.proofs.Flights.{own_tickets}
 use Rattle.seq_model.proofs.Granted.{AllNone, all_none, does_not_apply, given}
 use Rattle.seq_model.proofs.Keys.{at_changed, at_unchanged}
 use Rattle.seq_model.proofs.Prefixes.{in_place}
-use Rattle.seq_model.specs.Histories.{History, frame_at}
+use Rattle.seq_model.specs.Histories.{History}
 use Rattle.seq_model.specs.Legal.{Legal}
 use Rattle.seq_model.specs.Life.{has}
 use Rattle.seq_model.specs.Pictures.{tiles_at}
 use Rattle.seq_model.specs.Refusals.{in_flight, mapped_at, phase_at, refusal, refusals_of, refusals_of_render}
-use Rattle.seq_model.specs.State.{Done, Empty, Flight, Object, Phase, State, changed_at, object_at, scene_objects}
+use Rattle.seq_model.specs.State.{Done, Empty, Flight, Object, State, changed_at, object_at, scene_objects}
 use Rattle.seq_model.specs.Steps.{after, change, effect, next_place, set_phase, step}
 use Rattle.seq_model.specs.Tickets.{ticket_of}
 use Rattle.seq_model.specs.declared.calls.Call.TheVariants.{RenderFrame}
 use Rattle.seq_model.specs.declared.calls.Reply.TheVariants as reply
 use Rattle.device_laws.proofs.LentFacts.{nothing_mapped}
 use Rattle.device_laws.proofs.StandingFacts.{phases_agree}
-use Rattle.device_laws.specs.Flown.{Flown, IsRun, run_of, runs_of}
+use Rattle.device_laws.specs.Flown.{Flown, IsRun, runs_of}
 use Rattle.device_laws.specs.Lent.{AreLent}
 use Rattle.device_laws.specs.Standing.{Standing, phase_as}
 use Rattle.device_core.specs.Holds.{Holds, held_too, hold}

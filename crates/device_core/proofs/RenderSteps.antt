@@ -6,7 +6,6 @@ use Rattle.dev_types.specs.Counting.{times}
 use Rattle.dev_types.specs.declared.data_types.DataType.TheVariants as ty
 use Rattle.dev_types.specs.declared.refusals.Refused.{Refused}
 use Rattle.dev_types.specs.declared.values.Value.{Value}
-use Rattle.flight_books.specs.declared.kept.Cargo.{Cargo}
 use Rattle.kept_worlds.proofs.LastFacts.{stay_known}
 use Rattle.kept_worlds.proofs.NowFacts.{again_known}
 use Rattle.kept_worlds.specs.KeptMaps.{Kept, Worlds, kept_at, reach_at, shown_at}

@@ -1,5 +1,5 @@
 -- What always holds of the parts of a device holds once a render is entered, and its flight began.
-use Rattle.std.proofs.Common.{◌≡◌, ◌∙◌, ℕ, ◌+◌, ◌≤◌, ◌<◌, ◌^◌, ◌==◌, All, Bool, true, false, List, [], ◌∷◌, ◌++◌, Option, Some, None, cond, length, length-append, map, refl, sym, ap, subst, arith}
+use Rattle.std.proofs.Common.{◌≡◌, ◌∙◌, ℕ, ◌+◌, ◌≤◌, ◌<◌, ◌^◌, All, Bool, true, false, List, [], ◌∷◌, ◌++◌, Option, Some, None, cond, length, length-append, refl, sym, ap, subst, arith}
 use Rattle.std.specs.Prelude.{IfSome, IsSome}
 use Rattle.std.specs.List.{AllByRecursion, filter_map, find}
 use Rattle.std.specs.Map.{keys_of}
@@ -10,9 +10,8 @@ use Rattle.dev_types.specs.Words.{name_of_channel}
 use Rattle.dev_types.specs.declared.handles.Channel.{Channel}
 use Rattle.flight_books.specs.Kept.{Books, cargo_at, is_of, with_future}
 use Rattle.flight_books.specs.declared.kept.Cargo.{Cargo}
-use Rattle.frame_future.specs.Channels.{is_asked}
-use Rattle.frame_future.specs.Flights.{Flying, IsNew, begun, is_stopped, key_at}
-use Rattle.frame_future.specs.Future.{Future, with_flight}
+use Rattle.frame_future.specs.Flights.{Flying, begun, is_stopped}
+use Rattle.frame_future.specs.Future.{with_flight}
 use Rattle.kept_worlds.specs.KeptMaps.{Kept, Worlds, kept_at, reach_at, shown_at}
 use Rattle.kept_worlds.specs.LastKept.{AreKept, AreShown, is_there}
 use Rattle.kind_tables.specs.SceneObjects.{SceneObject, SceneObjects, value_named}
@@ -23,7 +22,7 @@ use Rattle.object_store.specs.Ends.{notice_of}
 use Rattle.object_store.specs.Gathers.{IsLeft, buried}
 use Rattle.object_store.proofs.DeadSteps.{has_key}
 use Rattle.object_store.specs.Kept.{CountsItsObjects, Stored, number_at}
-use Rattle.object_steps.specs.Objects.{Objects, one_if, takes_memory, tellable, with_state}
+use Rattle.object_steps.specs.Objects.{Objects, with_state}
 use Rattle.object_steps.specs.Resting.{Follows}
 use Rattle.object_steps.proofs.Rested.{ends_told}
 use Rattle.object_steps.proofs.Tellables.{fewer_told, plain_tellable}
@@ -38,20 +37,18 @@ use Rattle.seq_model.specs.Histories.{History}
 use Rattle.seq_model.specs.Legal.{Legal}
 use Rattle.seq_model.specs.Life.{has}
 use Rattle.seq_model.specs.Pictures.{scene_at}
-use Rattle.seq_model.specs.State.{Flight, Object, State, changed_at, object_at, scene_object, scene_objects}
+use Rattle.seq_model.specs.State.{Flight, Object, changed_at, object_at, scene_object, scene_objects}
 use Rattle.seq_model.specs.Steps.{after, set_phase}
 use Rattle.seq_model.specs.Told.{end_of_object, gone, status_at}
 use Rattle.seq_model.specs.declared.calls.Call.TheVariants.{RenderFrame}
 use Rattle.seq_model.specs.declared.calls.Entry.TheVariants.{Closed}
 use Rattle.seq_model.specs.declared.calls.Reply.TheVariants as reply
-use Rattle.tile_claims.specs.Parts.{scene_of}
-use Rattle.tile_claims.specs.Seats.{key_of}
 use Rattle.world_laws.specs.Alike.{shown_of}
 use Rattle.world_snapshot.specs.Worlds.{World}
 use Rattle.device_laws.proofs.CallFacts.{render_kept}
 use Rattle.device_laws.proofs.FlownFacts.{joined, render_adds}
 use Rattle.device_laws.proofs.FramesStandFacts.{fewer_kept}
-use Rattle.device_laws.specs.Flown.{Flown, Run, run_of, runs_of}
+use Rattle.device_laws.specs.Flown.{Flown, run_of, runs_of}
 use Rattle.device_laws.specs.FramesStand.{FramesStand, LeavesBut, without_pictures}
 use Rattle.device_core.proofs.BeginFacts.{moved, not_refused, render_follows}
 use Rattle.device_core.proofs.CalledFacts.{called_lets}
@@ -60,9 +57,9 @@ use Rattle.device_core.proofs.RenderSteps.{reach_is_there, render_counted, rende
 use Rattle.device_core.specs.AllParts.{AreParts, Inside, IsLoaded, scene_of_load, shown_by}
 use Rattle.device_core.specs.Begins.{HasBegun, IsTakeoff, asks_in, with_takeoff}
 use Rattle.device_core.specs.Calls.{HasEntered}
-use Rattle.device_core.specs.Deaths.{all_but_those, unless_dead, untold}
+use Rattle.device_core.specs.Deaths.{all_but_those, unless_dead}
 use Rattle.device_core.specs.Holds.{held_too, with_holds}
-use Rattle.device_core.specs.Renders.{AreCurrent, HasEachOnce, IsBuildOf, IsGranted, IsWanted, wants_build, world_in}
+use Rattle.device_core.specs.Renders.{AreCurrent, HasEachOnce, IsGranted, IsWanted, wants_build}
 use Rattle.device_core.specs.Standing.{IsStanding}
 use Rattle.device_core.specs.declared.begins.Takeoff.{Takeoff}
 use Rattle.device_core.specs.declared.loads.Load.{Load}

@@ -1,4 +1,3 @@
-use Rattle.std.proofs.lemmas.Bool.{not-false}
 use Rattle.std.proofs.Common.{◌≡◌, ◌∙◌, ◌+◌, ◌≤◌, ◌<◌, ◌^◌, ◌++◌, ◌∷◌, [], All, Bool, true, false, arith, cond, length, refl, subst, sym, ap}
 use mir.Val.{bool_byte}
 use Rattle.std.specs.Prelude.{vec_capacity}
@@ -7,7 +6,6 @@ use Rattle.std.specs.Map.{keys_of}
 use Rattle.flight_books.specs.Kept.{Books, with_future}
 use Rattle.flight_books.specs.declared.kept.Cargo.{Cargo}
 use Rattle.frame_future.specs.Future.{IsLater, flight_of, is_mapped}
-use Rattle.kept_worlds.specs.LastKept.{is_there}
 use Rattle.kind_tables.specs.Scenes.{scene}
 use Rattle.kind_tables.specs.Walks.{visited, walk}
 use Rattle.object_store.specs.Gathers.{IsLeft, buried}
@@ -25,14 +23,14 @@ use Rattle.seq_model.specs.Told.{end_of_object, gone}
 use Rattle.seq_model.specs.declared.calls.Call.TheVariants.{RenderFrame}
 use Rattle.seq_model.specs.declared.calls.Reply.TheVariants as reply
 use Rattle.device_laws.specs.FramesStand.{without_pictures}
-use Rattle.device_core.specs.AllParts.{Inside, scene_of_load, shown_by}
-use Rattle.device_core.specs.Begins.{HasBegun, IsTakeoff, with_takeoff}
+use Rattle.device_core.specs.AllParts.{Inside, scene_of_load}
+use Rattle.device_core.specs.Begins.{HasBegun, IsTakeoff}
 use Rattle.device_core.specs.Calls.{HasEntered}
 use Rattle.device_core.specs.Renders.{HasEachOnce, IsGranted, IsWanted, wants_build}
 use Rattle.device_core.specs.Standing.{IsStanding}
 use Rattle.device_core.specs.declared.loads.Load.{Load}
 use Rattle.device_core.proofs.BeginFacts.{landed, later, unmapped}
-use Rattle.device_core.proofs.RenderedFacts.{current_now, follows_now, frame_there, granted_now, held_now, moved_now, reach_held, rendered_begins, rendered_enters, rendered_parts, rendered_stands}
+use Rattle.device_core.proofs.RenderedFacts.{follows_now, frame_there, granted_now, held_now, moved_now, reach_held, rendered_begins, rendered_enters, rendered_parts, rendered_stands}
 use Rattle.device_core.proofs.parts.Parts.enter_render.Goals as goal
 
 as_number : (b : Bool) → bool_byte b ≡ cond b 1 0
