@@ -1,10 +1,9 @@
 -- What always holds of the parts of a device holds once a frame is discarded.
-use Rattle.std.proofs.Common.{◌≡◌, ◌∙◌, ℕ, ◌+◌, ◌<◌, Bool, true, false, List, [], ◌∷◌, ◌++◌, Option, None, Some, length, length-append, map, refl, sym, ap, subst, arith}
+use Rattle.std.proofs.Common.{◌≡◌, ◌∙◌, ℕ, ◌+◌, ◌<◌, Bool, true, List, [], ◌∷◌, ◌++◌, Option, None, Some, length, length-append, refl, sym, ap, subst, arith}
 use Rattle.std.specs.List.{AllByRecursion, filter_map}
 use Rattle.std.specs.Map.{keys_of}
 use Rattle.std.specs.Option.{IsSome, is_some, option_map_or}
 use Rattle.std.proofs.lemmas.List.{length-map}
-use Rattle.flight_books.specs.Kept.{Books}
 use Rattle.frame_future.specs.Future.{Future, IsDiscarded, IsKept, flight_of}
 use Rattle.kept_worlds.proofs.LastFacts.{stay_known}
 use Rattle.kept_worlds.specs.KeptMaps.{kept_at, reach_at}
@@ -22,8 +21,8 @@ use Rattle.seq_model.specs.Histories.{History}
 use Rattle.seq_model.specs.Legal.{Legal}
 use Rattle.seq_model.specs.Life.{has}
 use Rattle.seq_model.specs.State.{Empty, Object, State, changed_at, object_at}
-use Rattle.seq_model.specs.Steps.{after, change, discard, effect, next_place, set_phase, step}
-use Rattle.seq_model.specs.Told.{end_of_object, gone, status_at}
+use Rattle.seq_model.specs.Steps.{after, change, discard, effect, set_phase, step}
+use Rattle.seq_model.specs.Told.{end_of_object, gone}
 use Rattle.seq_model.specs.declared.calls.Call.TheVariants.{DiscardFrame}
 use Rattle.seq_model.specs.declared.calls.Entry.{Entry}
 use Rattle.seq_model.specs.declared.calls.Entry.TheVariants.{Called, Closed}
@@ -40,7 +39,6 @@ use Rattle.device_core.specs.AllParts.{AreParts, Inside, IsLoaded}
 use Rattle.device_core.specs.Calls.{HasEntered}
 use Rattle.device_core.specs.Deaths.{all_but_those, unless_dead}
 use Rattle.device_core.specs.Standing.{IsStanding}
-use Rattle.device_core.specs.declared.loads.Load.{Load}
 use Rattle.device_core.proofs.CalledFacts.{called_lets}
 use Rattle.device_core.proofs.EntryFacts.{all_loaded, leaves, parts_after, same_builds}
 

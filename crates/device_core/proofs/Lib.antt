@@ -1,4 +1,5 @@
 -- Lemmas of this crate.
+pub mod BeginFacts
 pub mod CalledFacts
 pub mod DiscardFacts
 pub mod EndFacts
@@ -10,6 +11,8 @@ pub mod LookFacts
 pub mod NotedFacts
 pub mod OnceFacts
 pub mod RecordFacts
+pub mod RenderSteps
+pub mod RenderedFacts
 pub mod SeenFacts
 pub mod ShownFacts
 pub mod SweepFacts

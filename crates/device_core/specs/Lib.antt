@@ -5,6 +5,7 @@ pub mod AllParts
 pub mod Deaths
 pub mod Standing
 pub mod Notes
+pub mod Begins
 pub mod Calls
 pub mod Discards
 pub mod Renders

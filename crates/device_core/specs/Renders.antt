@@ -1,6 +1,6 @@
 -- What a render takes along.
-use Rattle.std.specs.Prelude.{ℕ, ◌≡◌, Bool, false, List, Option, Some, None, codes, map, if◌then◌else◌}
-use Rattle.std.specs.Option.{MatchOption, is_none, option_map, option_map_or}
+use Rattle.std.specs.Prelude.{ℕ, ◌≡◌, Bool, false, IfSome, List, Option, Some, None, codes, map, if◌then◌else◌}
+use Rattle.std.specs.Option.{MatchOption, is_none, is_some, option_map, option_map_or}
 use Rattle.dev_types.specs.Counting.{times}
 use Rattle.kind_tables.specs.SceneObjects.{SceneObjects, object_at}
 use Rattle.kind_tables.specs.Typed.{AreFit}
@@ -41,6 +41,11 @@ pub record IsBuildOf (objects : SceneObjects) (f : ℕ) (b : Build) : Type 0 whe
   pub world : world_in objects f ≡ Some b.world
   pub reach : b.reach.items ≡ visited (walk objects b.world)
   pub shown : shown_by b.prepared ≡ shown_of objects b.world
+
+-- what a render of frame f prepares for good: its world, exactly where that is not kept
+pub record IsWanted (objects : SceneObjects) (worlds : Worlds World) (f : ℕ) (build : Option Build) : Type 0 where
+  pub exactly : is_some build ≡ wants_build objects worlds f
+  pub build_is : IfSome build (IsBuildOf objects f)
 
 -- the handles of the visits of a walk
 abbrev pub handles_of : List (Spot × ℕ) → List ℕ

@@ -2,6 +2,7 @@
 //! happened.
 #![tactic(auto)]
 
+mod begins;
 mod burials;
 mod calls;
 mod discards;
@@ -16,4 +17,4 @@ mod sweeps;
 
 pub use loads::Load;
 pub use parts::Parts;
-pub use renders::{Build, NewLoad, load_of};
+pub use renders::{Build, NewLoad, keep_build, load_of};

@@ -1,18 +1,25 @@
 //! What a render takes along, before it changes anything.
-ghost use Rattle.std.specs.Prelude.{◌≡◌, Some, IfOk, IfSome};
-ghost use Rattle.std.specs.Option.{is_some};
+ghost use Rattle.std.specs.Prelude.{◌≡◌, ◌++◌, ◌∷◌, [], ℕ, Some, IfOk, OnErr, OnOk};
+ghost use Rattle.kept_worlds.specs.KeptMaps.{kept_at, reach_at, shown_at};
+ghost use Rattle.kept_worlds.specs.LastKept.{AreKept, AreShown, is_there};
 ghost use Rattle.kind_tables.specs.Scenes.{scene};
 ghost use Rattle.kind_tables.specs.Walks.{visited, walk};
+ghost use Rattle.past_laws.specs.Worlds.{render_of};
 ghost use Rattle.picture_model.specs.Limits.{IsSceneWithin};
+ghost use Rattle.seq_model.specs.Histories.{History};
+ghost use Rattle.seq_model.specs.Legal.{Legal};
+ghost use Rattle.seq_model.specs.State.{scene_objects};
+ghost use Rattle.seq_model.specs.Steps.{after};
 ghost use Rattle.world_snapshot.specs.Worlds.{IsShownBy};
-ghost use Rattle.device_core.specs.AllParts.{scene_of_load};
+ghost use Rattle.device_core.specs.AllParts.{scene_of_load, shown_by};
+ghost use Rattle.device_core.specs.Begins.{without_world, world_of_build};
 ghost use Rattle.device_core.specs.Renders.{
   AreCurrent,
   HasEachOnce,
   IsBuildOf,
   IsGranted,
+  IsWanted,
   handles_of,
-  wants_build,
   world_in,
 };
 
@@ -102,9 +109,7 @@ fn prepared_for<O: Objects>(
     requires kept { AreCurrent (O.objects state.now) worlds.now }
     ensures shown { IfOk result (λ p. IsShownBy (O.objects state.now)
         (walk (O.objects state.now) frame) p.0) }
-    ensures wanted { IfOk result (λ p. is_some p.1
-        ≡ wants_build (O.objects state.now) worlds.now frame) }
-    ensures build { IfOk result (λ p. IfSome p.1 (IsBuildOf (O.objects state.now) frame)) }
+    ensures build { IfOk result (λ p. IsWanted (O.objects state.now) worlds.now frame p.1) }
 {
     let Some(world) = named(state, frame, "world") else {
         return Ok((prepare_visited(alloc, state, visits)?, None));
@@ -135,9 +140,7 @@ pub fn load_of<O: Objects>(
         n.load.reach.items) }
     ensures scene { IfOk result (λ n. scene_of_load n.load ≡ scene (O.objects state.now) frame) }
     ensures within { IfOk result (λ n. IsSceneWithin (scene_of_load n.load)) }
-    ensures wanted { IfOk result (λ n. is_some n.build
-        ≡ wants_build (O.objects state.now) worlds.now frame) }
-    ensures build { IfOk result (λ n. IfSome n.build (IsBuildOf (O.objects state.now) frame)) }
+    ensures build { IfOk result (λ n. IsWanted (O.objects state.now) worlds.now frame n.build) }
 {
     let reach = reach_of(alloc, visits)?;
     let (prepared, build) = prepared_for(alloc, state, worlds, frame, visits)?;
@@ -148,4 +151,34 @@ pub fn load_of<O: Objects>(
         view,
     };
     Ok(NewLoad { load, build })
+}
+
+/// Keeps the world that a render prepared, if it prepared one. The only error is want of memory,
+/// and leaves all as it was.
+///
+/// Over a render that prepares exactly a world that is not kept, what is kept is what the history
+/// says, and shows what its world shows.
+pub fn keep_build(
+    worlds: &mut KeptWorlds<Prepared>,
+    alloc: Global,
+    build: Option<Build>,
+) -> Result<(), NoMemory>
+    ensures refused { OnErr result (worlds.new ≡ worlds.old) }
+    ensures others { OnOk result ((w : ℕ)
+        → without_world (world_of_build build) w (kept_at worlds.new w)
+        ≡ without_world (world_of_build build) w (kept_at worlds.old w)) }
+    ensures known { OnOk result ((history : History) (actor f : ℕ)
+        → Legal history
+        → IsWanted (scene_objects (after history).state) worlds.old f build
+        → AreKept (is_there history) history (reach_at worlds.old)
+        → AreKept (is_there history) (history ++ render_of actor f ∷ []) (reach_at worlds.new)) }
+    ensures shown { OnOk result ((history : History) (f : ℕ)
+        → IsWanted (scene_objects (after history).state) worlds.old f build
+        → AreShown history (shown_at shown_by worlds.old)
+        → AreShown history (shown_at shown_by worlds.new)) }
+{
+    let Some(build) = build else {
+        return Ok(());
+    };
+    worlds.keep(alloc, build.world, build.reach, build.prepared)
 }
