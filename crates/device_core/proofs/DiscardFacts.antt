@@ -39,6 +39,7 @@ use Rattle.device_core.specs.AllParts.{AreParts, Inside, IsLoaded}
 use Rattle.device_core.specs.Calls.{HasEntered}
 use Rattle.device_core.specs.Deaths.{all_but_those, unless_dead}
 use Rattle.device_core.specs.Standing.{IsStanding}
+use Rattle.device_core.proofs.KeptFacts.{there_as}
 use Rattle.device_core.proofs.CalledFacts.{called_lets}
 use Rattle.device_core.proofs.EntryFacts.{all_loaded, leaves, parts_after, same_builds}
 
@@ -47,19 +48,8 @@ objects_are : (h : ℕ) (s : State) → (discard h s).objects ≡ (changed_at h 
 unfolding discard
 objects_are h s = stop_objects (option_map_or (λ o. o.phase) (object_at s h) Empty) (changed_at h (set_phase Empty) s)
 
-there_before : (h k : ℕ) (s : State) → IsSome (object_at (discard h s) k) → IsSome (object_at s k)
-there_before h k s there =
-    let same : is_some (object_at (discard h s) k) ≡ is_some (object_at s k) =
-    sym (has_key k (discard h s).objects) ∙ ap (λ (es : List (ℕ × Object)). has k (keys_of es)) (objects_are h s) ∙ ap (has k) (keys_of_changed h (set_phase Empty) s) ∙ has_key k s.objects in
-    is_there_if (object_at s k) (sym same ∙ is_some_if (object_at (discard h s) k) there)
-  where
-    is_some_if : (o : Option Object) → IsSome o → is_some o ≡ true
-    is_some_if None some = absurd cc
-    is_some_if (Some o) some = refl
-
-    is_there_if : (o : Option Object) → is_some o ≡ true → IsSome o
-    is_there_if None some = absurd cc
-    is_there_if (Some o) some = refl
+same_keys : (h : ℕ) (s : State) → keys_of (discard h s).objects ≡ keys_of s.objects
+same_keys h s = ap (λ (es : List (ℕ × Object)). keys_of es) (objects_are h s) ∙ keys_of_changed h (set_phase Empty) s
 
 same_tellable : (h : ℕ) (s : State) → tellable (discard h s) ≡ tellable s
 same_tellable h s = ap (λ (es : List (ℕ × Object)). length (filter_map end_of_object es)) (objects_are h s) ∙ plain_tellable h (set_phase Empty) s (λ o. refl)
@@ -81,7 +71,7 @@ module _ (old : Inside) (actor h room : ℕ) (p : AreParts old) (legal : Legal (
   discard_follows = record {
     legal = legal;
     state = ap (discard h) p.rest.state;
-    public = λ k there. p.rest.public k (there_before h k old.objects.stored.state there) ∙ sym (references_stay old.history entry k legal tt);
+    public = λ k there. p.rest.public k (there_as moved.state.objects old.objects.stored.state.objects k (same_keys h old.objects.stored.state) there) ∙ sym (references_stay old.history entry k legal tt);
     holds = λ k.
         p.rest.holds k ∙ ap (λ (s : State). reaches (after old.history).reached s k) p.rest.state
         ∙ sym (reaches_of_a_call old.history k actor (DiscardFrame h) reply.Done refl)

@@ -1,9 +1,9 @@
 -- The worlds that are kept, once what died is forgotten.
-use Rattle.std.proofs.Common.{◌≡◌, ◌∙◌, ◌⊎◌, inl, inr, ℕ, ◌==◌, ◌&&◌, ◌||◌, Bool, true, false, not, cond, List, [], ◌∷◌, refl, sym, ap, ap₂}
+use Rattle.std.proofs.Common.{◌≡◌, ◌∙◌, ◌⊎◌, inl, inr, ℕ, ◌==◌, ◌&&◌, ◌||◌, Bool, true, false, not, cond, List, [], ◌∷◌, refl, sym, ap, ap₂, Option, None, Some}
 use Rattle.std.specs.List.{filter}
 use Rattle.std.specs.Map.{keys_of}
 use Rattle.std.proofs.lemmas.Bool.{cases_Bool, eqb-true}
-use Rattle.std.specs.Option.{is_some}
+use Rattle.std.specs.Option.{IsSome, is_some}
 use Rattle.object_store.specs.Parts.{at}
 use Rattle.object_store.proofs.DeadSteps.{has_key}
 use Rattle.seq_model.specs.Life.{has}
@@ -56,3 +56,15 @@ left_of moved now w there =
     ap not (sym (has_filtered (λ k. not (has k (keys_of now))) w moved))
     ∙ ap (λ m. not (not (has w (keys_of now)) && m)) there
     ∙ not_not (has w (keys_of now)) ∙ has_key w now
+
+-- what is there by its key is there in all lists with the same keys
+pub there_as : {X : Type 0} (es fs : List (ℕ × X)) (k : ℕ) → keys_of es ≡ keys_of fs → IsSome (at k es) → IsSome (at k fs)
+there_as {X} es fs k same there = there_if (at k fs) (sym (has_key k fs) ∙ ap (has k) (sym same) ∙ has_key k es ∙ is_some_if (at k es) there)
+  where
+    is_some_if : (o : Option X) → IsSome o → is_some o ≡ true
+    is_some_if None some = absurd cc
+    is_some_if (Some o) some = refl
+
+    there_if : (o : Option X) → is_some o ≡ true → IsSome o
+    there_if None some = absurd cc
+    there_if (Some o) some = refl

@@ -17,3 +17,4 @@ pub mod SeenFacts
 pub mod ShownFacts
 pub mod SweepFacts
 pub mod TellFacts
+pub mod UnmapFacts

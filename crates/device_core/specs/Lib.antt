@@ -10,3 +10,4 @@ pub mod Calls
 pub mod Discards
 pub mod Renders
 pub mod Sweeps
+pub mod Unmaps

@@ -14,6 +14,7 @@ mod parts;
 mod records;
 mod renders;
 mod sweeps;
+mod unmaps;
 
 pub use loads::Load;
 pub use parts::Parts;
