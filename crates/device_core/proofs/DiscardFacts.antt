@@ -1,31 +1,22 @@
 -- What always holds of the parts of a device holds once a frame is discarded.
-use Rattle.std.proofs.Common.{◌≡◌, ◌∙◌, ℕ, ◌+◌, ◌<◌, Bool, true, List, [], ◌∷◌, ◌++◌, Option, None, Some, length, length-append, refl, sym, ap, subst, arith}
-use Rattle.std.specs.List.{AllByRecursion, filter_map}
+use Rattle.std.proofs.Common.{◌≡◌, ◌∙◌, ℕ, ◌+◌, List, [], ◌∷◌, ◌++◌, length, refl, sym, ap, subst, arith}
+use Rattle.std.specs.List.{filter_map}
 use Rattle.std.specs.Map.{keys_of}
-use Rattle.std.specs.Option.{IsSome, is_some, option_map_or}
+use Rattle.std.specs.Option.{option_map_or}
 use Rattle.std.proofs.lemmas.List.{length-map}
 use Rattle.frame_future.specs.Future.{Future, IsDiscarded, IsKept, flight_of}
-use Rattle.kept_worlds.proofs.LastFacts.{stay_known}
-use Rattle.kept_worlds.specs.KeptMaps.{kept_at, reach_at}
-use Rattle.kept_worlds.specs.LastKept.{AreKept, is_there}
-use Rattle.object_store.specs.Ends.{notice_of}
-use Rattle.object_store.specs.Gathers.{IsLeft, buried}
-use Rattle.object_store.specs.Kept.{CountsItsObjects, Stored}
-use Rattle.object_store.proofs.DeadSteps.{has_key}
+use Rattle.object_store.specs.Kept.{Stored}
 use Rattle.object_steps.specs.Objects.{tellable}
 use Rattle.object_steps.specs.Resting.{Follows, reaches}
 use Rattle.object_steps.proofs.ReachLaws.{reaches_of_a_call, references_stay}
-use Rattle.object_steps.proofs.Rested.{ends_told}
-use Rattle.object_steps.proofs.Tellables.{fewer_told, plain_tellable}
-use Rattle.seq_model.specs.Histories.{History}
+use Rattle.object_steps.proofs.Tellables.{plain_tellable}
 use Rattle.seq_model.specs.Legal.{Legal}
-use Rattle.seq_model.specs.Life.{has}
 use Rattle.seq_model.specs.State.{Empty, Object, State, changed_at, object_at}
 use Rattle.seq_model.specs.Steps.{after, change, discard, effect, set_phase, step}
-use Rattle.seq_model.specs.Told.{end_of_object, gone}
+use Rattle.seq_model.specs.Told.{end_of_object}
 use Rattle.seq_model.specs.declared.calls.Call.TheVariants.{DiscardFrame}
 use Rattle.seq_model.specs.declared.calls.Entry.{Entry}
-use Rattle.seq_model.specs.declared.calls.Entry.TheVariants.{Called, Closed}
+use Rattle.seq_model.specs.declared.calls.Entry.TheVariants.{Called}
 use Rattle.seq_model.specs.declared.calls.Reply.TheVariants as reply
 use Rattle.seq_model.proofs.Came.{stop_objects}
 use Rattle.seq_model.proofs.Changes.{keys_of_changed}
@@ -35,13 +26,9 @@ use Rattle.device_laws.proofs.CallFacts.{discard_kept}
 use Rattle.device_laws.proofs.FlyFacts.{discard_flown}
 use Rattle.device_laws.proofs.FramesStandFacts.{fewer_kept}
 use Rattle.device_laws.proofs.FutureFacts.{discarded_runs}
-use Rattle.device_core.specs.AllParts.{AreParts, Inside, IsLoaded}
-use Rattle.device_core.specs.Calls.{HasEntered}
-use Rattle.device_core.specs.Deaths.{all_but_those, unless_dead}
+use Rattle.device_core.specs.AllParts.{AreParts, Inside}
 use Rattle.device_core.specs.Standing.{IsStanding}
 use Rattle.device_core.proofs.KeptFacts.{there_as}
-use Rattle.device_core.proofs.CalledFacts.{called_lets}
-use Rattle.device_core.proofs.EntryFacts.{all_loaded, leaves, parts_after, same_builds}
 
 -- a discard leaves which objects there are, and of whose ends the client is to be told
 objects_are : (h : ℕ) (s : State) → (discard h s).objects ≡ (changed_at h (set_phase Empty) s).objects

@@ -1,7 +1,5 @@
 -- What always holds of the parts of a device holds once the loan of a frame's channel ends.
-use Rattle.std.proofs.Common.{◌≡◌, ◌∙◌, ℕ, ◌+◌, Bool, true, false, List, [], ◌∷◌, ◌++◌, Option, None, Some, length, refl, sym, ap, subst, arith}
-use Rattle.std.specs.List.{filter_map}
-use Rattle.std.specs.Map.{keys_of}
+use Rattle.std.proofs.Common.{◌≡◌, ◌∙◌, ℕ, ◌+◌, true, [], ◌∷◌, ◌++◌, Option, None, Some, length, refl, sym, ap, subst, arith}
 use Rattle.std.proofs.lemmas.Bool.{eqb-true}
 use Rattle.std.specs.Option.{option_map_or}
 use Rattle.dev_types.specs.declared.handles.Channel.{Channel}
@@ -13,11 +11,10 @@ use Rattle.object_steps.specs.Objects.{tellable}
 use Rattle.object_steps.specs.Resting.{Follows, reaches}
 use Rattle.object_steps.proofs.ReachLaws.{reaches_of_a_call, references_stay}
 use Rattle.object_steps.proofs.Tellables.{plain_tellable}
-use Rattle.seq_model.specs.Histories.{History}
 use Rattle.seq_model.specs.Legal.{Legal}
 use Rattle.seq_model.specs.Refusals.{mapped_at, refusal}
-use Rattle.seq_model.specs.State.{Object, State, changed_at, object_at}
-use Rattle.seq_model.specs.Steps.{after, change, effect, next_place, step, unmap_channel}
+use Rattle.seq_model.specs.State.{State, changed_at}
+use Rattle.seq_model.specs.Steps.{after, change, effect, step, unmap_channel}
 use Rattle.seq_model.specs.declared.calls.Call.TheVariants.{UnmapFrame}
 use Rattle.seq_model.specs.declared.calls.Entry.{Entry}
 use Rattle.seq_model.specs.declared.calls.Entry.TheVariants.{Called}
