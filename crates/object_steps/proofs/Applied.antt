@@ -26,7 +26,7 @@ use Rattle.seq_model.specs.declared.calls.Entry.TheVariants.{Called}
 use Rattle.seq_model.specs.declared.calls.Reply.{Reply}
 use Rattle.seq_model.specs.declared.calls.Reply.TheVariants as reply
 use Rattle.seq_model.proofs.Afters.{after_more}
-use Rattle.object_steps.specs.Applying.{is_frame_call, is_object_call, with_call}
+use Rattle.object_steps.specs.Applying.{tells_of_flights, is_object_call, with_call}
 use Rattle.object_steps.specs.Carrying.{Brings, CanCarry, GivesBack, carried}
 use Rattle.object_steps.specs.Objects.{Objects, one_if, takes_memory, tellable}
 use Rattle.object_steps.specs.Resting.{Follows, HasRoom, IsAtRest, IsOfObjects, past_of}
@@ -42,38 +42,42 @@ pub rests_with_room : (old now : Objects) (history : History) → IsAtRest old.s
 rests_with_room old now history rest same =
     subst (λ (o : Objects). IsAtRest o.stored history) (sym same) (record { legal = rest.legal; state = rest.state; public = rest.public; holds = rest.holds })
 
--- a call on objects is none on frames
-pub no_frame_call : (call : Call) → is_object_call call ≡ true → is_frame_call call ≡ false
-no_frame_call (RenderFrame h) is = absurd cc
-no_frame_call (FrameReady h wait) is = absurd cc
-no_frame_call (DiscardFrame h) is = absurd cc
-no_frame_call (MapFrame h channel) is = absurd cc
-no_frame_call (UnmapFrame h number) is = absurd cc
-no_frame_call _ is = refl
+-- a call on objects tells of no flight, and changes no frame, also as it is entered
+pub tells_of_none : (call : Call) → is_object_call call ≡ true → tells_of_flights call ≡ false
+tells_of_none (RenderFrame h) is = absurd cc
+tells_of_none (FrameReady h wait) is = absurd cc
+tells_of_none (MapFrame h channel) is = absurd cc
+tells_of_none _ is = refl
 
--- what calls that are none on frames do not do
-pub of_objects : (call : Call) (r : Reply) → is_frame_call call ≡ false → IsOfObjects call r
-of_objects (RenderFrame h) reply.Done is = absurd cc
-of_objects (DiscardFrame h) reply.Done is = absurd cc
-of_objects (MapFrame h channel) (reply.Mapped width height t rows) is = absurd cc
-of_objects (UnmapFrame h number) reply.Done is = absurd cc
-of_objects _ r is = tt
+of_objects : (past : Past) (call : Call) (r : Reply) → is_object_call call ≡ true → IsOfObjects (entered past call) r
+unfolding entered
+of_objects past (RenderFrame h) r is = absurd cc
+of_objects past (DiscardFrame h) r is = absurd cc
+of_objects past (MapFrame h channel) r is = absurd cc
+of_objects past (UnmapFrame h number) r is = absurd cc
+of_objects past (UnmapArray h number bytes) r is = tt
+of_objects past (UnmapParameterArray h name number bytes) r is = tt
+of_objects past _ r is = tt
 
-pub shows_no_picture : (call : Call) → is_frame_call call ≡ false → ShowsNoPicture call
+pub entry_of_objects : (past : Past) (call entry : Call) (r : Reply) → entry ≡ entered past call → is_object_call call ≡ true → IsOfObjects entry r
+entry_of_objects past call entry r is object = subst (λ c. IsOfObjects c r) (sym is) (of_objects past call r object)
+
+-- what a call that tells of no flight does not do
+pub shows_no_picture : (call : Call) → tells_of_flights call ≡ false → ShowsNoPicture call
 shows_no_picture (MapFrame h channel) is = absurd cc
 shows_no_picture _ is = tt
 
-pub waits_for_none : (past : Past) (call : Call) → is_frame_call call ≡ false → waited_flight past call ≡ None
+pub waits_for_none : (past : Past) (call : Call) → tells_of_flights call ≡ false → waited_flight past call ≡ None
 waits_for_none past (FrameReady h wait) is = absurd cc
 waits_for_none past _ is = refl
 
-asks_for_no_flight : (past : Past) (call : Call) → is_frame_call call ≡ false → HasTiles past call
+asks_for_no_flight : (past : Past) (call : Call) → tells_of_flights call ≡ false → HasTiles past call
 asks_for_no_flight past (RenderFrame h) is = absurd cc
 asks_for_no_flight past (FrameReady h wait) is = absurd cc
 asks_for_no_flight past (MapFrame h channel) is = absurd cc
 asks_for_no_flight past _ is = tt
 
-reads_no_flight : (past : Past) (readings : List (ℕ × ℕ)) (actor : ℕ) (call : Call) (r : Reply) → is_frame_call call ≡ false →
+reads_no_flight : (past : Past) (readings : List (ℕ × ℕ)) (actor : ℕ) (call : Call) (r : Reply) → tells_of_flights call ≡ false →
     MatchOption (reading past (Called actor call r)) (Unit {0}) (IsNoLess readings)
 reads_no_flight past readings actor (RenderFrame h) r is = absurd cc
 reads_no_flight past readings actor (FrameReady h wait) r is = absurd cc
@@ -81,11 +85,11 @@ reads_no_flight past readings actor (MapFrame h channel) r is = absurd cc
 reads_no_flight past readings actor _ r is = tt
 
 -- as it is entered it is made on the same objects
-stays_frameless : (past : Past) (call : Call) → is_frame_call call ≡ false → is_frame_call (entered past call) ≡ false
+stays_quiet : (past : Past) (call : Call) → tells_of_flights call ≡ false → tells_of_flights (entered past call) ≡ false
 unfolding entered
-stays_frameless past (UnmapArray h number bytes) is = refl
-stays_frameless past (UnmapParameterArray h name number bytes) is = refl
-stays_frameless past _ is = is
+stays_quiet past (UnmapArray h number bytes) is = refl
+stays_quiet past (UnmapParameterArray h name number bytes) is = refl
+stays_quiet past _ is = is
 
 stays_roomy : (s : Stored) (past : Past) (call : Call) → HasRoom s call → HasRoom s (entered past call)
 unfolding entered
@@ -93,14 +97,14 @@ stays_roomy s past (UnmapArray h number bytes) room = tt
 stays_roomy s past (UnmapParameterArray h name number bytes) room = room
 stays_roomy s past _ room = room
 
-pub entry_is_frameless : (past : Past) (call entry : Call) → entry ≡ entered past call → is_frame_call call ≡ false → is_frame_call entry ≡ false
-entry_is_frameless past call entry is frameless = subst (λ c. is_frame_call c ≡ false) (sym is) (stays_frameless past call frameless)
+pub entry_is_quiet : (past : Past) (call entry : Call) → entry ≡ entered past call → tells_of_flights call ≡ false → tells_of_flights entry ≡ false
+entry_is_quiet past call entry is quiet = subst (λ c. tells_of_flights c ≡ false) (sym is) (stays_quiet past call quiet)
 
 -- the rest of a call that was answered as it is entered
 module _ (s : Stored) (history : History) (rest : IsAtRest s history) (open_ : IsOpen history) (call entry : Call) (r : Reply)
-    (frameless : is_frame_call call ≡ false) (is : entry ≡ entered (after history) call) (answered : answer (after history) entry ≡ Some r) where
-  entry_frameless : is_frame_call entry ≡ false
-  entry_frameless = entry_is_frameless (after history) call entry is frameless
+    (quiet : tells_of_flights call ≡ false) (is : entry ≡ entered (after history) call) (answered : answer (after history) entry ≡ Some r) where
+  entry_quiet : tells_of_flights entry ≡ false
+  entry_quiet = entry_is_quiet (after history) call entry is quiet
 
   sound : is_content_sound (after history) entry ≡ true
   sound = subst (λ c. is_content_sound (after history) c ≡ true) (sym is) (entered_is_sound history rest.legal call)
@@ -108,19 +112,19 @@ module _ (s : Stored) (history : History) (rest : IsAtRest s history) (open_ : I
   pub legal : (actor : ℕ) → Legal (with_call history actor entry r)
   legal actor =
       one_call_more history actor entry r rest.legal (open_ actor entry r)
-      (may_be_given (after history) entry r (asks_for_no_flight (after history) entry entry_frameless) answered) sound
-      (reads_no_flight (after history) (readings_of history) actor entry r entry_frameless)
+      (may_be_given (after history) entry r (asks_for_no_flight (after history) entry entry_quiet) answered) sound
+      (reads_no_flight (after history) (readings_of history) actor entry r entry_quiet)
 
-  pub can_be_carried : length history < 2 ^ 63 → HasRoom s call → CanCarry s entry r
-  can_be_carried short room =
-      can_carry s history rest entry r short (subst (HasRoom s) (sym is) (stays_roomy s (after history) call room)) (of_objects entry r entry_frameless) answered sound
+  pub can_be_carried : IsOfObjects entry r → length history < 2 ^ 63 → HasRoom s call → CanCarry s entry r
+  can_be_carried objects short room =
+      can_carry s history rest entry r short (subst (HasRoom s) (sym is) (stays_roomy s (after history) call room)) objects answered sound
 
   pub loan_comes_back : (with : ArrayLoan) → Brings call with → GivesBack entry r with
   loan_comes_back with brings =
       subst (λ c. GivesBack c r with) (sym is) (gives_back history call r with brings (subst (λ c. answer (after history) c ≡ Some r) is answered))
 
-  pub leads_on : CountsItsObjects s → length history < 2 ^ 63 → HasRoom s call → (actor : ℕ) → Follows (carried (length history + 1) entry r s) history (Called actor entry r)
-  leads_on counts short room actor = followed s history actor entry r rest counts (of_objects entry r entry_frameless) (can_be_carried short room) (legal actor)
+  pub leads_on : IsOfObjects entry r → CountsItsObjects s → length history < 2 ^ 63 → HasRoom s call → (actor : ℕ) → Follows (carried (length history + 1) entry r s) history (Called actor entry r)
+  leads_on objects counts short room actor = followed s history actor entry r rest counts objects (can_be_carried objects short room) (legal actor)
 
 -- a store at rest after one more entry stands where that entry leads
 pub stepped : (s : Stored) (history : History) (actor : ℕ) (call : Call) (r : Reply) → IsAtRest s (with_call history actor call r) →

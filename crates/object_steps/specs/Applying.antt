@@ -19,14 +19,12 @@ is_object_call (ObjectInfo t subtype) = false
 is_object_call (ParameterInfo t subtype name) = false
 is_object_call call = true
 
--- the call does something to a frame's flight or picture, or asks of them
-abbrev pub is_frame_call : Call → Bool
-is_frame_call (RenderFrame h) = true
-is_frame_call (FrameReady h wait) = true
-is_frame_call (DiscardFrame h) = true
-is_frame_call (MapFrame h channel) = true
-is_frame_call (UnmapFrame h number) = true
-is_frame_call call = false
+-- the reply to the call may tell of a flight
+abbrev pub tells_of_flights : Call → Bool
+tells_of_flights (RenderFrame h) = true
+tells_of_flights (FrameReady h wait) = true
+tells_of_flights (MapFrame h channel) = true
+tells_of_flights call = false
 
 -- a history with one call more
 abbrev pub with_call : History → ℕ → Call → Reply → History
