@@ -8,6 +8,7 @@ pub mod FollowFacts
 pub mod HoldFacts
 pub mod KeptFacts
 pub mod LookFacts
+pub mod MoveFacts
 pub mod NotedFacts
 pub mod OnceFacts
 pub mod RecordFacts

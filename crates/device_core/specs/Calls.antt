@@ -1,17 +1,23 @@
 -- What a call does to the parts of a device.
 use Rattle.std.specs.Prelude.{◌≡◌, ℕ, ◌+◌, ◌≤◌, ◌++◌, ◌∷◌, [], Option, Some, None}
 use Rattle.std.specs.List.{filter_map}
+use Rattle.flight_books.specs.Kept.{with_future}
 use Rattle.object_store.specs.Ends.{notice_of}
 use Rattle.object_steps.specs.Objects.{one_if, takes_memory, tellable}
 use Rattle.seq_model.specs.Steps.{after}
 use Rattle.seq_model.specs.Told.{status_at, told_by}
 use Rattle.seq_model.specs.declared.calls.Call.{Call}
-use Rattle.seq_model.specs.declared.calls.Call.TheVariants.{Commit, UnmapArray}
+use Rattle.seq_model.specs.declared.calls.Call.TheVariants.{Commit, DiscardFrame, UnmapArray, UnmapFrame}
 use Rattle.seq_model.specs.declared.calls.Entry.TheVariants.{Called}
 use Rattle.seq_model.specs.declared.calls.Reply.{Reply}
 use Rattle.seq_model.specs.declared.calls.Reply.TheVariants as reply
+use Rattle.device_laws.specs.FramesStand.{without_pictures}
 use Rattle.device_core.specs.AllParts.{Inside}
 use Rattle.device_core.specs.Deaths.{untold}
+use Rattle.device_core.specs.Discards.{HasDiscarded}
+use Rattle.device_core.specs.Unmaps.{HasUnmapped}
+use Rattle.device_core.specs.declared.calls.Move.{Move}
+use Rattle.device_core.specs.declared.calls.Move.TheVariants as move
 
 -- The history grew by this call alone. Behind its status the client is still to be told of the dead,
 -- in their order; with those that are left there are as many to be told of as before, and one more
@@ -42,3 +48,16 @@ pub record HasRoomMade (old new : Inside) : Type 0 where
     };
   }
   pub grows : old.room ≤ new.room
+
+-- what a call does to a frame by its reply: a discard, or the end of a channel's loan, or neither
+abbrev pub move_of : Call → Reply → Move
+move_of (DiscardFrame h) reply.Done = move.Discard h
+move_of (UnmapFrame h number) reply.Done = move.Unmap h number
+move_of call r = move.Nothing
+
+-- what becomes of the flights and pictures by it; of what died no picture is left
+abbrev pub AreMoved : Move → Inside → Inside → Type 0
+AreMoved move.Nothing old new =
+    new.flights ≡ with_future old.flights (without_pictures old.flights.future new.objects.departed)
+AreMoved (move.Discard h) old new = HasDiscarded h old new
+AreMoved (move.Unmap h number) old new = HasUnmapped h number old new

@@ -6,8 +6,8 @@ pub mod Deaths
 pub mod Standing
 pub mod Notes
 pub mod Begins
-pub mod Calls
 pub mod Discards
+pub mod Unmaps
+pub mod Calls
 pub mod Renders
 pub mod Sweeps
-pub mod Unmaps

@@ -2,9 +2,10 @@
 ghost use Rattle.std.specs.Prelude.{◌≡◌, ◌+◌, ◌<◌, ◌≤◌, ◌^◌, ◌++◌, ◌∷◌, [], ℕ, Bool, IfErr, IfOk, None, OnErr, OnOk, Some, false, length};
 ghost use Rattle.std.specs.Option.{unwrap_or};
 ghost use Rattle.flight_books.specs.Kept.{with_future};
+ghost use Rattle.frame_future.specs.Future.{AreHome};
 ghost use Rattle.kept_worlds.specs.KeptMaps.{reach_at, shown_at};
 ghost use Rattle.kept_worlds.specs.LastKept.{AreKept, AreShown};
-ghost use Rattle.object_steps.specs.Applying.{is_frame_call};
+ghost use Rattle.object_steps.specs.Applying.{tells_of_flights};
 ghost use Rattle.object_steps.specs.Carrying.{Brings, CanCarry, GivesBack, handed};
 ghost use Rattle.object_steps.specs.Resting.{HasRoom, IsOfObjects};
 ghost use Rattle.seq_model.specs.Answers.{answer};
@@ -15,7 +16,7 @@ ghost use Rattle.seq_model.specs.Steps.{after};
 ghost use Rattle.seq_model.specs.declared.calls.Entry.TheVariants.{Called};
 ghost use Rattle.world_laws.specs.Alike.{Shown as ShownWorld};
 ghost use Rattle.device_laws.specs.FramesStand.{without_pictures};
-ghost use Rattle.device_core.specs.Calls.{HasEntered, HasRoomMade, touched_by};
+ghost use Rattle.device_core.specs.Calls.{AreMoved, HasEntered, HasRoomMade, move_of, touched_by};
 ghost use Rattle.device_core.specs.Standing.{IsStanding};
 
 use crate::burials::bury;
@@ -28,8 +29,16 @@ use object_steps::deciding::{Decided, decide};
 use seq_model::{Call, Entry, Reply};
 use std::alloc::Global;
 
+/// What a call does to a frame by its reply.
+pub(crate) enum Move {
+    Nothing,
+    Discard(Handle),
+    /// The loan with this number ends.
+    Unmap(Handle, u64),
+}
+
 impl Parts {
-    /// Makes a call that is none on frames: it is refused or carried out, and entered; what it touched
+    /// Makes a call that tells of no flight: it is refused or carried out, and entered; what it touched
     /// of kept worlds is dropped, and what nothing holds any more dies. Its reply is handed out, with
     /// the loan of a map, or that of an unmap which is refused.
     ///
@@ -44,16 +53,18 @@ impl Parts {
     ) -> Result<(Reply, ArrayLoan), (NoMemory, Call, ArrayLoan)>
         requires all_told { self.old.objects.dead ≡ [] }
         requires stands { IsStanding self.old }
+        requires home { AreHome self.old.flights.future }
         requires short { length self.old.history < 2 ^ 63 }
-        requires no_frame { is_frame_call call ≡ false }
+        requires quiet { tells_of_flights call ≡ false }
         requires brings { Brings call with }
         ensures entered { IfOk result (λ r. HasEntered actor (entered (after self.old.history) call)
             r.0 self.old self.new) }
         ensures answered { IfOk result (λ r. answer (after self.old.history)
             (entered (after self.old.history) call) ≡ Some r.0) }
-        ensures frames { OnOk result (self.new.flights ≡ with_future self.old.flights
-            (without_pictures self.old.flights.future self.new.objects.departed)) }
+        ensures frames { IfOk result (λ r. AreMoved (move_of (entered (after self.old.history) call)
+            r.0) self.old self.new) }
         ensures stands { IsStanding self.new }
+        ensures home { AreHome self.new.flights.future }
         ensures handed { IfOk result (λ r. r.1 ≡ handed (length self.old.history + 1)
             (entered (after self.old.history) call) r.0 self.old.objects.stored.state with) }
         ensures returned { IfErr result (λ e. (e.1 ≡ call) × (e.2 ≡ with)) }
@@ -92,8 +103,9 @@ impl Parts {
     ) -> Result<(Reply, ArrayLoan), (NoMemory, Call, ArrayLoan)>
         requires all_told { self.old.objects.dead ≡ [] }
         requires stands { IsStanding self.old }
+        requires home { AreHome self.old.flights.future }
         requires short { length self.old.history < 2 ^ 63 }
-        requires no_frame { is_frame_call call ≡ false }
+        requires quiet { tells_of_flights call ≡ false }
         requires brings { Brings call with }
         requires ready { HasRoom self.old.objects.stored call }
         requires place { length self.old.history + length self.old.flights.future.flights + 1
@@ -102,13 +114,14 @@ impl Parts {
             r.0 self.old self.new) }
         ensures answered { IfOk result (λ r. answer (after self.old.history)
             (entered (after self.old.history) call) ≡ Some r.0) }
-        ensures frames { OnOk result (self.new.flights ≡ with_future self.old.flights
-            (without_pictures self.old.flights.future self.new.objects.departed)) }
-        ensures stands { OnOk result (IsStanding self.new) }
+        ensures frames { IfOk result (λ r. AreMoved (move_of (entered (after self.old.history) call)
+            r.0) self.old self.new) }
+        ensures stands { IsStanding self.new }
+        ensures home { AreHome self.new.flights.future }
         ensures handed { IfOk result (λ r. r.1 ≡ handed (length self.old.history + 1)
             (entered (after self.old.history) call) r.0 self.old.objects.stored.state with) }
         ensures returned { IfErr result (λ e. (e.1 ≡ call) × (e.2 ≡ with)) }
-        ensures err { OnErr result (self.new ≡ self.old) }
+        ensures err { OnErr result (HasRoomMade self.old self.new) }
     {
         self.are_parts();
         let Ok(decided) = self.decide(alloc, &call) else {
@@ -119,16 +132,26 @@ impl Parts {
         };
         let Decided { cleaned, reply } = decided;
         let (entry, made) = parted(cleaned, call);
-        match self.enter_call(alloc, actor, entry, reply, with) {
-            Ok(out) => Ok((answer, out)),
-            Err((none, entry, with)) => Err((none, made.unwrap_or(entry), with)),
+        match move_of(&entry, &reply) {
+            Move::Nothing => match self.enter_call(alloc, actor, entry, reply, with) {
+                Ok(out) => Ok((answer, out)),
+                Err((none, entry, with)) => Err((none, made.unwrap_or(entry), with)),
+            },
+            Move::Discard(h) => match self.enter_discard(actor, h) {
+                Ok(()) => Ok((answer, with)),
+                Err(none) => Err((none, made.unwrap_or(entry), with)),
+            },
+            Move::Unmap(h, number) => {
+                self.enter_unmap(actor, h, number);
+                Ok((answer, with))
+            }
         }
     }
 
     /// What a call is answered, and how it is entered.
     fn decide(&self, alloc: Global, call: &Call) -> Result<Decided, NoMemory>
         requires stands { IsStanding self.now }
-        requires no_frame { is_frame_call call.now ≡ false }
+        requires quiet { tells_of_flights call.now ≡ false }
         ensures entered { IfOk result (λ d. unwrap_or d.cleaned call.now
             ≡ entered (after self.now.history) call.now) }
         ensures answered { IfOk result (λ d. answer (after self.now.history)
@@ -165,6 +188,7 @@ impl Parts {
         ensures frames { OnOk result (self.new.flights ≡ with_future self.old.flights
             (without_pictures self.old.flights.future self.new.objects.departed)) }
         ensures stands { OnOk result (IsStanding self.new) }
+        ensures home { AreHome self.old.flights.future → AreHome self.new.flights.future }
         ensures handed { IfOk result (λ l. l ≡ handed (length self.old.history + 1) call reply
             self.old.objects.stored.state with) }
         ensures returned { IfErr result (λ e. (e.1 ≡ call) × (e.2 ≡ with)) }
@@ -194,6 +218,17 @@ fn parted(cleaned: Option<Call>, call: Call) -> (Call, Option<Call>)
     match cleaned {
         Some(entry) => (entry, Some(call)),
         None => (call, None),
+    }
+}
+
+/// What a call does to a frame by its reply.
+fn move_of(call: &Call, reply: &Reply) -> Move
+    ensures { result ≡ move_of call.now reply.now }
+{
+    match (call, reply) {
+        (Call::DiscardFrame { h }, Reply::Done) => Move::Discard(*h),
+        (Call::UnmapFrame { h, number }, Reply::Done) => Move::Unmap(*h, *number),
+        _ => Move::Nothing,
     }
 }
 

@@ -1,5 +1,7 @@
-use Rattle.std.proofs.Common.{◌≡◌, ◌∙◌, ◌+◌, ◌<◌, ◌++◌, ◌∷◌, [], length, refl, sym, ap, subst}
-use Rattle.std.specs.Prelude.{vec_capacity}
+use Rattle.std.proofs.Common.{◌≡◌, ◌∙◌, ℕ, true, ◌+◌, ◌<◌, ◌++◌, ◌∷◌, [], length, refl, sym, ap, subst}
+use Rattle.std.specs.Prelude.{slice_index_or, vec_capacity}
+use Rattle.frame_future.specs.Flights.{Flying}
+use Rattle.device_laws.proofs.FramesStandFacts.{fewer_kept}
 use Rattle.std.specs.List.{filter_map}
 use Rattle.std.specs.Map.{keys_of}
 use Rattle.flight_books.specs.Kept.{Books}
@@ -122,3 +124,9 @@ returns-clause-stands c =
     (c.touch.ensures.shown shown_by old.history c.self.invariant.shown)
     c.bury.ensures.forgotten c.bury.ensures.known refl c.push_reserved.ensures.capacity)
     (subst IsStanding (sym c.self.view_is) c.requires.stands)
+
+pub returns-clause-home : goal.returns-clause-home
+returns-clause-home c = λ home.
+    let flights = ap (λ (b : Books Load). b.future.flights) c.bury.ensures.flights ∙ (fewer_kept c.self.inside.flights.future c.bury.new.objects.departed).0
+    ∙ ap (λ (i : Inside). i.flights.future.flights) c.self.view_is in
+    subst (λ fs. (k : ℕ) (d : Flying) → k < length fs → (slice_index_or fs k d).home ≡ true) (sym flights) home
