@@ -17,7 +17,9 @@ use Rattle.kind_tables.specs.WalkRefusals.{fault_of, first_mapped, walk_refusal}
 use Rattle.kind_tables.specs.Walks.{Spot, visited, walk}
 use Rattle.kind_tables.specs.declared.kinds.Kind.{Kind}
 use Rattle.kind_tables.specs.declared.kinds.Kind.TheVariants.{Array, CameraOrthographic, FrameDefault}
+use Rattle.past_laws.proofs.Follows.{one_call_more}
 use Rattle.past_laws.proofs.GrantedScenes.{legal_is_fit}
+use Rattle.past_laws.specs.Open.{IsOpen}
 use Rattle.past_laws.proofs.Typed.{sound_at, value_is}
 use Rattle.past_laws.proofs.WorldFacts.{builds_more}
 use Rattle.past_laws.specs.Worlds.{Use, last_use, render_of, wants_build as last_wants_build, world_of}
@@ -29,6 +31,7 @@ use Rattle.seq_model.proofs.Keys.{at, at_map}
 use Rattle.seq_model.proofs.Reached.{carries, reach_of}
 use Rattle.seq_model.proofs.SoundHistories.{legal_is_sound}
 use Rattle.seq_model.proofs.SoundSteps.{has_that_type, is_alive, not_wrong}
+use Rattle.seq_model.specs.Answers.{IsAnswer, IsLike, answer}
 use Rattle.seq_model.specs.Builds.{builds}
 use Rattle.seq_model.specs.Histories.{History, frame_at}
 use Rattle.seq_model.specs.Legal.{Legal}
@@ -39,6 +42,7 @@ use Rattle.seq_model.specs.Soundness.{Fits, NamesFitting}
 use Rattle.seq_model.specs.State.{Object, State, object_at, scene_object, scene_objects}
 use Rattle.seq_model.specs.Steps.{after, is_reached_by}
 use Rattle.seq_model.specs.declared.calls.Call.TheVariants.{RenderFrame}
+use Rattle.seq_model.specs.declared.calls.Reply.TheVariants as reply
 use Rattle.world_laws.proofs.Reaches.{reached_is_there}
 use Rattle.world_laws.specs.Alike.{Shown, shown_of}
 use Rattle.world_snapshot.specs.Worlds.{World}
@@ -227,3 +231,10 @@ no_build history f worlds build none wanted = sym wanted.exactly ∙ ap is_some 
 pub on_ok : {T E P Q : Type 0} (r : Result T E) → (P → Q) → OnOk r P → OnOk r Q
 on_ok (Ok t) turn is = turn is
 on_ok (Err e) turn is = tt
+
+-- a render to which no refusal applies may be entered
+pub render_legal : (history : History) (actor f : ℕ) → Legal history → IsOpen history → refusal (after history) (RenderFrame f) ≡ None → Legal (history ++ render_of actor f ∷ [])
+unfolding IsAnswer answer
+render_legal history actor f legal open_ none =
+    one_call_more history actor (RenderFrame f) reply.Done legal (open_ actor (RenderFrame f) reply.Done)
+    (subst (λ x. MatchOption x ⊥ (λ a. IsLike a reply.Done)) (sym (ap (λ x. option_or (option_map reply.Denied x) (Some reply.Done)) none)) refl) refl tt

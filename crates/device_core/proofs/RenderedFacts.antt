@@ -272,3 +272,14 @@ module _ (old : Inside) (actor f : ℕ) (p : AreParts old) (legal : Legal (old.h
         fresh = takes.new;
         begins = flights;
       }
+
+-- room that was made before a flight began changes nothing of it
+pub begun_before : (f room : ℕ) (old new : Inside) → HasBegun f (record old { room = room }) new → HasBegun f old new
+begun_before f room old new b = record {
+  takeoff = b.takeoff;
+  ticket = b.ticket;
+  frame = b.frame;
+  scene = b.scene;
+  fresh = b.fresh;
+  begins = b.begins;
+}

@@ -16,6 +16,7 @@ ghost use Rattle.past_laws.specs.Worlds.{render_of};
 ghost use Rattle.scene_read.specs.Starts.{all_seen};
 ghost use Rattle.seq_model.specs.Histories.{History};
 ghost use Rattle.seq_model.specs.Legal.{Legal};
+ghost use Rattle.seq_model.specs.Refusals.{refusal};
 ghost use Rattle.seq_model.specs.State.{object_at, scene_objects};
 ghost use Rattle.seq_model.specs.Steps.{after};
 ghost use Rattle.seq_model.specs.declared.calls.Call.TheVariants.{RenderFrame};
@@ -32,11 +33,13 @@ use crate::burials::bury;
 use crate::holds::{can_be_held, hold_all};
 use crate::loads::Load;
 use crate::parts::Parts;
+use crate::records::Recorded;
 use crate::renders::{Build, NewLoad, keep_build, load_of};
-use dev_types::{Channel, Handle, Name, NoMemory};
+use call_answers::frames::{refusal_by_walk, walk};
+use dev_types::{Channel, Handle, Name, NoMemory, Refused};
 use flight_books::{Cargo, FlightBooks};
 use kept_worlds::KeptWorlds;
-use object_steps::ObjectStore;
+use object_steps::{AtRest, ObjectStore};
 use object_store::slots::Shows;
 use scene_read::{Objects, Visits};
 use seq_model::{Call, Entry, Reply};
@@ -231,5 +234,69 @@ impl Parts {
         bury(&mut self.objects, &mut self.flights, &mut self.worlds);
         self.objects.store().counts_its_objects();
         Ok(())
+    }
+
+    /// Makes room in the journal for a render and for the note of its flight, beside the notes of the
+    /// other flights.
+    fn make_places_to_fly(&mut self) -> Result<(), NoMemory>
+        ensures places { OnOk result (length self.old.history
+            + length self.old.flights.future.flights + 2 < self.new.room) }
+        ensures same { self.new ≡ record self.old { room = self.new.room } }
+        ensures grows { self.old.room ≤ self.new.room }
+    {
+        let Some(more) = self.flights.flight_count().checked_add(3) else {
+            return Err(NoMemory);
+        };
+        self.journal.reserve(more)?;
+        Ok(())
+    }
+
+    /// Renders a frame to which no refusal applies, and enters that, as `enter_render`; these are
+    /// the visits of the walk from the frame.
+    ///
+    /// # Errors
+    /// `NoMemory`; all is then as it was, but for the room.
+    pub(crate) fn render(
+        &mut self,
+        alloc: Global,
+        actor: u32,
+        frame: Handle,
+        visits: &Visits,
+    ) -> Result<(), NoMemory>
+        requires all_told { self.old.objects.dead ≡ [] }
+        requires stands { IsStanding self.old }
+        requires granted { refusal (after self.old.history) (RenderFrame frame) ≡ None }
+        requires seen { all_seen (scene_objects self.old.objects.stored.state) visits.now
+            ≡ walk (scene_objects self.old.objects.stored.state) frame }
+        ensures entered { OnOk result (HasEntered actor (RenderFrame frame) reply.Done
+            self.old self.new) }
+        ensures begun { OnOk result (HasBegun frame self.old self.new) }
+        ensures stands { IsStanding self.new }
+        ensures err { OnErr result (IsAsItWas self.old self.new) }
+    {
+        self.are_parts();
+        self.make_places_to_fly()?;
+        self.enter_render(alloc, actor, frame, visits)
+    }
+
+    /// Why a frame is not rendered, where no tile of a flight was seen finished, with the visits of
+    /// the walk from it. The only error is want of memory.
+    pub(crate) fn refusal_of_render(
+        &self,
+        alloc: Global,
+        frame: Handle,
+    ) -> Result<(Visits, Option<Refused>), NoMemory>
+        requires stands { IsStanding self.now }
+        ensures seen { IfOk result (λ r. all_seen (scene_objects self.now.objects.stored.state) r.0
+            ≡ walk (scene_objects self.now.objects.stored.state) frame) }
+        ensures refusal { IfOk result (λ r. r.1
+            ≡ refusal (after self.now.history) (RenderFrame frame)) }
+    {
+        self.are_parts();
+        let recorded = Recorded::new(self);
+        let device = AtRest::new(self.objects.store(), &recorded);
+        let visits = walk(&device, alloc, frame)?;
+        let refused = refusal_by_walk(&device, frame, &visits);
+        Ok((visits, refused))
     }
 }
