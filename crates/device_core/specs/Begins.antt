@@ -1,5 +1,5 @@
 -- What a render begins.
-use Rattle.std.specs.Prelude.{ℕ, ◌≡◌, ◌≤◌, ◌==◌, ◌+◌, ◌++◌, ◌∷◌, [], Bool, length, Option, None, Some, if◌then◌else◌}
+use Rattle.std.specs.Prelude.{ℕ, ◌≡◌, ◌==◌, ◌+◌, ◌++◌, ◌∷◌, [], Bool, length, Option, None, Some, if◌then◌else◌}
 use Rattle.std.specs.Option.{is_some, option_and_then, option_map}
 use Rattle.dev_types.specs.Words.{name_of_channel}
 use Rattle.dev_types.specs.declared.handles.Channel.{Channel}
@@ -8,7 +8,7 @@ use Rattle.frame_future.specs.Channels.{is_asked}
 use Rattle.frame_future.specs.Flights.{IsNew, begun}
 use Rattle.frame_future.specs.Future.{with_flight}
 use Rattle.frame_future.specs.Pixels.{IsSized}
-use Rattle.kept_worlds.specs.KeptMaps.{Kept, kept_at}
+use Rattle.kept_worlds.specs.KeptMaps.{Kept}
 use Rattle.kind_tables.specs.SceneObjects.{SceneObjects, object_at, value_named}
 use Rattle.seq_model.specs.Pictures.{scene_at}
 use Rattle.tile_claims.specs.Parts.{scene_of}
@@ -59,9 +59,3 @@ pub record HasBegun (f : ℕ) (old new : Inside) : Type 0 where
   pub fresh : IsNew takeoff.claims takeoff.seat
   pub begins : new.flights ≡ with_future (with_takeoff takeoff old.flights)
       (without_pictures (with_takeoff takeoff old.flights).future new.objects.departed)
-
--- all is as it was, but for how much room there is in the journal
-pub record IsAsItWas (old new : Inside) : Type 0 where
-  pub kept : (w : ℕ) → kept_at new.worlds w ≡ kept_at old.worlds w
-  pub rest : new ≡ record old { worlds = new.worlds; room = new.room }
-  pub grows : old.room ≤ new.room

@@ -2,6 +2,7 @@
 use Rattle.std.specs.Prelude.{◌≡◌, ℕ, ◌+◌, ◌≤◌, ◌++◌, ◌∷◌, [], Option, Some, None}
 use Rattle.std.specs.List.{filter_map}
 use Rattle.flight_books.specs.Kept.{with_future}
+use Rattle.kept_worlds.specs.KeptMaps.{kept_at}
 use Rattle.object_store.specs.Ends.{notice_of}
 use Rattle.object_steps.specs.Objects.{one_if, takes_memory, tellable}
 use Rattle.seq_model.specs.Steps.{after}
@@ -38,7 +39,9 @@ touched_by call r = None
 
 -- nothing changed but for how much there is room
 pub record HasRoomMade (old new : Inside) : Type 0 where
+  pub kept : (w : ℕ) → kept_at new.worlds w ≡ kept_at old.worlds w
   pub same : new ≡ record old {
+    worlds = new.worlds;
     room = new.room;
     objects = record old.objects {
       stored = record old.objects.stored {

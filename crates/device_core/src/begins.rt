@@ -23,8 +23,8 @@ ghost use Rattle.seq_model.specs.declared.calls.Call.TheVariants.{RenderFrame};
 ghost use Rattle.seq_model.specs.declared.calls.Reply.TheVariants as reply;
 ghost use Rattle.tile_claims.specs.Seats.{key_of};
 ghost use Rattle.device_core.specs.AllParts.{scene_of_load, shown_by};
-ghost use Rattle.device_core.specs.Begins.{HasBegun, IsAsItWas, IsTakeoff, asks_in, with_takeoff, without_world, world_of_build};
-ghost use Rattle.device_core.specs.Calls.{HasEntered};
+ghost use Rattle.device_core.specs.Begins.{HasBegun, IsTakeoff, asks_in, with_takeoff, without_world, world_of_build};
+ghost use Rattle.device_core.specs.Calls.{HasEntered, HasRoomMade};
 ghost use Rattle.device_core.specs.Holds.{held_too, with_holds};
 ghost use Rattle.device_core.specs.Renders.{IsWanted};
 ghost use Rattle.device_core.specs.Standing.{IsStanding};
@@ -210,7 +210,7 @@ impl Parts {
             self.old self.new) }
         ensures begun { OnOk result (HasBegun frame self.old self.new) }
         ensures stands { OnOk result (IsStanding self.new) }
-        ensures err { OnErr result (IsAsItWas self.old self.new) }
+        ensures err { OnErr result (HasRoomMade self.old self.new) }
     {
         let place = self.entries() + 1;
         let store = self.objects.store();
@@ -272,7 +272,7 @@ impl Parts {
             self.old self.new) }
         ensures begun { OnOk result (HasBegun frame self.old self.new) }
         ensures stands { IsStanding self.new }
-        ensures err { OnErr result (IsAsItWas self.old self.new) }
+        ensures err { OnErr result (HasRoomMade self.old self.new) }
     {
         self.are_parts();
         self.make_places_to_fly()?;
