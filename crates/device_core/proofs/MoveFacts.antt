@@ -1,6 +1,6 @@
 -- What a call does to a frame, and when it is done.
-use Rattle.std.proofs.Common.{◌≡◌, ◌∙◌, ℕ, false, Option, None, Some, refl, sym, ap}
-use Rattle.std.specs.Option.{IsSome, is_none, option_map, option_or, unwrap_or}
+use Rattle.std.proofs.Common.{◌≡◌, ℕ, false, Option, None, Some, refl, ap}
+use Rattle.std.specs.Option.{IsSome, is_none, option_map, option_or}
 use Rattle.dev_types.specs.declared.refusals.Refused.{Refused}
 use Rattle.dev_types.specs.declared.refusals.Refused.TheVariants.{BadHandle}
 use Rattle.object_steps.specs.Applying.{tells_of_flights}

@@ -2,7 +2,7 @@ use Rattle.std.proofs.Common.{◌≡◌, ◌∙◌, ap}
 use Rattle.seq_model.specs.Refusals.{first_of, refusal, refusals_of, refusals_of_render}
 use Rattle.seq_model.specs.Steps.{Past, after}
 use Rattle.object_steps.proofs.Standings.{led}
-use Rattle.object_steps.specs.Resting.{Rested, past_of}
+use Rattle.object_steps.specs.Resting.{past_of}
 use Rattle.device_core.specs.AllParts.{Inside}
 use Rattle.device_core.proofs.parts.Parts.refusal_of_render.Goals as goal
 
