@@ -33,6 +33,8 @@ use Rattle.device_laws.specs.FlightMoves.{moves_flights}
 use Rattle.device_laws.specs.Flown.{Flown, LetsNotes, runs_of}
 use Rattle.device_laws.specs.FramesStand.{FramesStand, LeavesBut, without_pictures}
 use Rattle.device_laws.specs.Lent.{moves_channels}
+use Rattle.device_laws.specs.Over.{AllOver}
+use Rattle.device_laws.proofs.OverFacts.{others_over}
 use Rattle.device_laws.proofs.CallFacts.{call_kept}
 use Rattle.device_laws.proofs.FlyFacts.{call_flown}
 use Rattle.device_laws.proofs.FramesStandFacts.{fewer_kept}
@@ -101,6 +103,7 @@ module _ (old new : Inside) (actor : ℕ) (call : Call) (r : Reply) (moved : Sto
     (grown : new.history ≡ old.history ++ Called actor call r ∷ [])
     (flown : Flown (old.history ++ Called actor call r ∷ []) (runs_of new.flights.future.flights))
     (count : length new.flights.future.flights ≡ length old.flights.future.flights) (cargo : new.flights.cargo ≡ old.flights.cargo)
+    (over : new.flights.over ≡ old.flights.over)
     (touched : AreKept (is_there old.history) (old.history ++ Called actor call r ∷ []) (reach_at mid))
     (shows : AreShown old.history (shown_at shown_by mid))
     (forgotten : (w : ℕ) → kept_at new.worlds w ≡ unless_dead new.objects.departed w (kept_at mid w))
@@ -115,6 +118,7 @@ module _ (old new : Inside) (actor : ℕ) (call : Call) (r : Reply) (moved : Sto
   pub called_parts : IsStanding old → length old.history + length old.flights.future.flights + 1 < old.room → AreParts new
   called_parts stands place = parts_after old new (Called actor call r) moved mid p no_close follows counted_moved counted is_left is_buried departed grown flown
       (subst (AllByRecursion (IsLoaded (old.history ++ Called actor call r ∷ []))) (sym cargo) (all_loaded old.history (Called actor call r) old.flights.cargo p.loaded))
+      (subst (AllOver (old.history ++ Called actor call r ∷ [])) (sym over) (others_over old.history (Called actor call r) old.flights.over follows.legal refl p.over))
       (called_lets old.history actor call r stands.open_) touched shows forgotten known
       (same ∙ p.built ∙ sym (same_builds old.history (Called actor call r) quiet))
       (let longer = ap length grown ∙ length-append old.history (Called actor call r ∷ []) in omega (arith, place, longer, count, room))

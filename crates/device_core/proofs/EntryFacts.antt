@@ -27,6 +27,7 @@ use Rattle.device_laws.proofs.FlightFacts.{still_there}
 use Rattle.device_laws.proofs.RenderFacts.{scene_early}
 use Rattle.device_laws.specs.FramesStand.{LeavesBut}
 use Rattle.device_laws.specs.Flown.{Flown, LetsNotes, runs_of}
+use Rattle.device_laws.specs.Over.{AllOver}
 use Rattle.kept_worlds.proofs.BirthFacts.{was_there}
 use Rattle.kept_worlds.proofs.LastFacts.{nothing_gone}
 use Rattle.kept_worlds.proofs.NowFacts.{shown_over}
@@ -119,6 +120,7 @@ module _ (old new : Inside) (e : Entry) (moved : Stored) (mid : Worlds World) (p
     (grown : new.history ≡ old.history ++ e ∷ [])
     (flown : Flown (old.history ++ e ∷ []) (runs_of new.flights.future.flights))
     (loaded : AllByRecursion (IsLoaded (old.history ++ e ∷ [])) new.flights.cargo)
+    (over : AllOver (old.history ++ e ∷ []) new.flights.over)
     (lets : LetsNotes (old.history ++ e ∷ []))
     (touched : AreKept (is_there old.history) (old.history ++ e ∷ []) (reach_at mid))
     (shows : AreShown old.history (shown_at shown_by mid))
@@ -184,5 +186,6 @@ module _ (old new : Inside) (e : Entry) (moved : Stored) (mid : Worlds World) (p
     shown = subst (λ h. AreShown h (shown_at shown_by new.worlds)) (sym grown)
         (shown_over old.history e (reach_at new.worlds) (shown_at shown_by new.worlds) follows.legal kept_after both shown_still);
     built = built ∙ ap builds (sym grown);
+    over = subst (λ h. AllOver h new.flights.over) (sym grown) over;
     places = places;
   }

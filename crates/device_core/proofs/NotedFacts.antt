@@ -29,6 +29,7 @@ use Rattle.device_laws.specs.Flown.{Flown, IsNoted, IsRun, LetsNotes, Run, note_
 use Rattle.device_laws.proofs.SweepFacts.{one_noted, tickets_of_runs}
 use Rattle.device_laws.proofs.StandingFacts.{found}
 use Rattle.device_core.specs.AllParts.{AreParts, Inside, IsLoaded}
+use Rattle.device_laws.specs.Over.{AllOver}
 use Rattle.device_laws.specs.FramesStand.{FramesStand, without_pictures}
 use Rattle.device_laws.proofs.NoteFacts.{note_kept}
 use Rattle.device_core.specs.Standing.{IsStanding}
@@ -159,6 +160,7 @@ module _ (old new : Inside) (e : Ended) (c : Cargo Load) (left : List Flying) (x
     (is_left : IsLeft (moved old e c left x).stored new.objects.stored) (is_buried : new.objects.stored.state ≡ buried (moved old e c left x).stored)
     (departed : new.objects.departed ≡ keys_of (gone (moved old e c left x).stored.state new.objects.stored.state))
     (grown : new.history ≡ old.history ++ note e.left e.ticket ∷ []) (flights : new.flights.future.flights ≡ left) (cargo : new.flights.cargo ≡ without e.ticket old.flights.cargo)
+    (all_over : AllOver (old.history ++ note e.left e.ticket ∷ []) new.flights.over)
     (forgotten : (w : ℕ) → kept_at new.worlds w ≡ unless_dead new.objects.departed w (kept_at old.worlds w))
     (known : (history : History) (there : ℕ → Bool) → AreKept there history (reach_at old.worlds) → AreKept (all_but_those new.objects.departed there) history (reach_at new.worlds))
     (same : new.builds ≡ old.builds) (room : new.room ≡ old.room) where
@@ -171,7 +173,7 @@ module _ (old new : Inside) (e : Ended) (c : Cargo Load) (left : List Flying) (x
       (subst (λ fs. Flown (old.history ++ note e.left e.ticket ∷ []) (runs_of fs)) (sym flights) ends.flown)
       (subst (AllByRecursion (IsLoaded (old.history ++ note e.left e.ticket ∷ []))) (sym cargo)
       (others_loaded old.history (note e.left e.ticket) e.ticket old.flights.cargo x.parts.loaded))
-      ends.lets
+      all_over ends.lets
       (stay_known old.history (note e.left e.ticket) (is_there old.history) (reach_at old.worlds) (ap (option_and_then (world_of (after old.history).state)) (quiet e.left e.ticket))
       (untouched e.left e.ticket) x.parts.kept)
       x.parts.shown forgotten known

@@ -48,6 +48,8 @@ use Rattle.world_snapshot.specs.Worlds.{World}
 use Rattle.device_laws.proofs.CallFacts.{render_kept}
 use Rattle.device_laws.proofs.FlownFacts.{joined, render_adds}
 use Rattle.device_laws.proofs.FramesStandFacts.{fewer_kept}
+use Rattle.device_laws.specs.Over.{AllOver}
+use Rattle.device_laws.proofs.OverFacts.{others_over}
 use Rattle.device_laws.specs.Flown.{Flown, run_of, runs_of}
 use Rattle.device_laws.specs.FramesStand.{FramesStand, LeavesBut, without_pictures}
 use Rattle.device_core.proofs.BeginFacts.{moved, not_refused, render_follows}
@@ -75,6 +77,7 @@ same_kept old worlds p same = record {
   kept = λ w. ap (option_map (λ k. k.reach)) (same w) ∙ p.kept w;
   shown = λ w. subst (λ x. MatchOption (option_map (λ k. shown_by k.value) x) (Unit {0}) (λ shown. shown ≡ shown_of (scene_objects (after old.history).state) w)) (sym (same w)) (p.shown w);
   built = p.built;
+  over = p.over;
   places = p.places;
 }
 
@@ -221,6 +224,7 @@ module _ (old : Inside) (actor f : ℕ) (p : AreParts old) (legal : Legal (old.h
           (render_adds old.history actor f (runs_of old.flights.future.flights) legal p.flown)))
           (subst (λ (b : Books Load). AllByRecursion (IsLoaded (old.history ++ render_of actor f ∷ [])) b.cargo) (sym flights)
           (joined (IsLoaded (old.history ++ render_of actor f ∷ [])) old.flights.cargo (t.cargo ∷ []) (all_loaded old.history (render_of actor f) old.flights.cargo p.loaded) (load_is, tt)))
+          (subst (λ (b : Books Load). AllOver (old.history ++ render_of actor f ∷ []) b.over) (sym flights) (others_over old.history (render_of actor f) old.flights.over legal refl p.over))
           (called_lets old.history actor (RenderFrame f) reply.Done stands.open_) touched shows forgotten known
           (counts ∙ ap (λ n. n + cond build 1 0) p.built
           ∙ ap (λ b. builds old.history + cond b 1 0) (wanted ∙ ap (λ o. wants_build o old.worlds f) same_objects)

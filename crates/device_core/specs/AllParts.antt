@@ -18,6 +18,7 @@ use Rattle.world_laws.specs.Alike.{Shown}
 use Rattle.world_snapshot.specs.Views.{scene_shown}
 use Rattle.world_snapshot.specs.Worlds.{World}
 use Rattle.device_laws.specs.Flown.{Flown, LetsNotes, runs_of}
+use Rattle.device_laws.specs.Over.{AllOver}
 use Rattle.device_core.specs.declared.loads.Load.{Load}
 
 -- the objects, the flights with what is kept of each, the worlds that are kept, all that happened,
@@ -50,7 +51,8 @@ pub record IsLoaded (history : History) (c : Cargo Load) : Type 0 where
 -- What always holds: the objects rest where the history led, the flights are those of the history,
 -- each loaded as at its render, and a note may follow; exactly the worlds are kept that are there
 -- and untouched since their last render, each as it would be prepared now; the builds are counted;
--- and there is room for the note of each flight, and for one entry more
+-- each render whose flight is gone is that of a flight that is over; and there is room for the note
+-- of each flight, and for one entry more
 pub record AreParts (i : Inside) : Type 0 where
   pub rest : IsAtRest i.objects.stored i.history
   pub flown : Flown i.history (runs_of i.flights.future.flights)
@@ -59,4 +61,5 @@ pub record AreParts (i : Inside) : Type 0 where
   pub kept : AreKept (is_there i.history) i.history (reach_at i.worlds)
   pub shown : AreShown i.history (shown_at shown_by i.worlds)
   pub built : i.builds ≡ builds i.history
+  pub over : AllOver i.history i.flights.over
   pub places : length i.history + length i.flights.future.flights < i.room

@@ -58,7 +58,7 @@ invariant_of-self-2 c =
     c.push_reserved.ensures.items
     (moved_flown old c.args.actor c.args.call c.args.reply c.self.invariant c.requires.of_objects new legal c.bury.ensures.flights)
     (moved_count old c.args.actor c.args.call c.args.reply c.self.invariant c.requires.of_objects new c.bury.ensures.flights)
-    (ap (λ (b : Books Load). b.cargo) c.bury.ensures.flights)
+    (ap (λ (b : Books Load). b.cargo) c.bury.ensures.flights) (ap (λ (b : Books Load). b.over) c.bury.ensures.flights)
     (c.touch.ensures.known old.history c.args.actor (is_there old.history) c.self.invariant.kept)
     (c.touch.ensures.shown shown_by old.history c.self.invariant.shown)
     c.bury.ensures.forgotten c.bury.ensures.known refl c.push_reserved.ensures.capacity
@@ -89,7 +89,7 @@ returns-clause-entered c =
     c.push_reserved.ensures.items
     (moved_flown old c.args.actor c.args.call c.args.reply c.self.invariant c.requires.of_objects new legal c.bury.ensures.flights)
     (moved_count old c.args.actor c.args.call c.args.reply c.self.invariant c.requires.of_objects new c.bury.ensures.flights)
-    (ap (λ (b : Books Load). b.cargo) c.bury.ensures.flights)
+    (ap (λ (b : Books Load). b.cargo) c.bury.ensures.flights) (ap (λ (b : Books Load). b.over) c.bury.ensures.flights)
     (c.touch.ensures.known old.history c.args.actor (is_there old.history) c.self.invariant.kept)
     (c.touch.ensures.shown shown_by old.history c.self.invariant.shown)
     c.bury.ensures.forgotten c.bury.ensures.known refl c.push_reserved.ensures.capacity
@@ -119,7 +119,7 @@ returns-clause-stands c =
     c.push_reserved.ensures.items
     (moved_flown old c.args.actor c.args.call c.args.reply c.self.invariant c.requires.of_objects new legal c.bury.ensures.flights)
     (moved_count old c.args.actor c.args.call c.args.reply c.self.invariant c.requires.of_objects new c.bury.ensures.flights)
-    (ap (λ (b : Books Load). b.cargo) c.bury.ensures.flights)
+    (ap (λ (b : Books Load). b.cargo) c.bury.ensures.flights) (ap (λ (b : Books Load). b.over) c.bury.ensures.flights)
     (c.touch.ensures.known old.history c.args.actor (is_there old.history) c.self.invariant.kept)
     (c.touch.ensures.shown shown_by old.history c.self.invariant.shown)
     c.bury.ensures.forgotten c.bury.ensures.known refl c.push_reserved.ensures.capacity)

@@ -54,7 +54,7 @@ invariant_of-self-2 c =
     c.push_reserved.ensures.items
     (discard_flies old c.args.actor c.args.h c.discard.new.self.stored.places c.self.invariant legal new c.discard-2.new.self.future c.push_reserved.ensures.items kept c.discard-2.ensures.discarded left)
     (discard_count old c.args.actor c.args.h c.discard.new.self.stored.places c.self.invariant legal new c.discard-2.new.self.future c.push_reserved.ensures.items kept c.discard-2.ensures.discarded left)
-    (ap (λ (b : Books Load). b.cargo) c.bury.ensures.flights ∙ c.discard-2.ensures.cargo)
+    (ap (λ (b : Books Load). b.cargo) c.bury.ensures.flights ∙ c.discard-2.ensures.cargo) (ap (λ (b : Books Load). b.over) c.bury.ensures.flights ∙ c.discard-2.ensures.over)
     (stay_known old.history (Called c.args.actor (DiscardFrame c.args.h) reply.Done) (is_there old.history) (reach_at old.worlds) refl (λ objects. refl) c.self.invariant.kept)
     c.self.invariant.shown
     c.bury.ensures.forgotten c.bury.ensures.known refl c.push_reserved.ensures.capacity
@@ -81,7 +81,7 @@ returns-clause-entered c =
     c.push_reserved.ensures.items
     (discard_flies old c.args.actor c.args.h c.discard.new.self.stored.places c.self.invariant legal new c.discard-2.new.self.future c.push_reserved.ensures.items kept c.discard-2.ensures.discarded left)
     (discard_count old c.args.actor c.args.h c.discard.new.self.stored.places c.self.invariant legal new c.discard-2.new.self.future c.push_reserved.ensures.items kept c.discard-2.ensures.discarded left)
-    (ap (λ (b : Books Load). b.cargo) c.bury.ensures.flights ∙ c.discard-2.ensures.cargo)
+    (ap (λ (b : Books Load). b.cargo) c.bury.ensures.flights ∙ c.discard-2.ensures.cargo) (ap (λ (b : Books Load). b.over) c.bury.ensures.flights ∙ c.discard-2.ensures.over)
     (stay_known old.history (Called c.args.actor (DiscardFrame c.args.h) reply.Done) (is_there old.history) (reach_at old.worlds) refl (λ objects. refl) c.self.invariant.kept)
     c.self.invariant.shown
     c.bury.ensures.forgotten c.bury.ensures.known refl c.push_reserved.ensures.capacity
@@ -107,7 +107,7 @@ returns-clause-stands c =
     c.push_reserved.ensures.items
     (discard_flies old c.args.actor c.args.h c.discard.new.self.stored.places c.self.invariant legal new c.discard-2.new.self.future c.push_reserved.ensures.items kept c.discard-2.ensures.discarded left)
     (discard_count old c.args.actor c.args.h c.discard.new.self.stored.places c.self.invariant legal new c.discard-2.new.self.future c.push_reserved.ensures.items kept c.discard-2.ensures.discarded left)
-    (ap (λ (b : Books Load). b.cargo) c.bury.ensures.flights ∙ c.discard-2.ensures.cargo)
+    (ap (λ (b : Books Load). b.cargo) c.bury.ensures.flights ∙ c.discard-2.ensures.cargo) (ap (λ (b : Books Load). b.over) c.bury.ensures.flights ∙ c.discard-2.ensures.over)
     (stay_known old.history (Called c.args.actor (DiscardFrame c.args.h) reply.Done) (is_there old.history) (reach_at old.worlds) refl (λ objects. refl) c.self.invariant.kept)
     c.self.invariant.shown
     c.bury.ensures.forgotten c.bury.ensures.known refl c.push_reserved.ensures.capacity)

@@ -66,7 +66,7 @@ invariant_of-self c =
     c.push_reserved.ensures.items
     (unmap_flies old c.args.actor c.args.h c.args.number c.self.invariant legal new channel c.push_reserved.ensures.items flights)
     (unmap_count old c.args.actor c.args.h c.args.number c.self.invariant legal new channel c.push_reserved.ensures.items flights)
-    (ap (λ (b : Books Load). b.cargo) flights)
+    (ap (λ (b : Books Load). b.cargo) flights) (ap (λ (b : Books Load). b.over) flights)
     (stay_known old.history (Called c.args.actor (UnmapFrame c.args.h c.args.number) reply.Done) (is_there old.history) (reach_at old.worlds) refl (λ objects. refl) c.self.invariant.kept)
     c.self.invariant.shown
     c.bury.ensures.forgotten c.bury.ensures.known refl c.push_reserved.ensures.capacity
@@ -94,7 +94,7 @@ returns-clause-entered c =
     c.push_reserved.ensures.items
     (unmap_flies old c.args.actor c.args.h c.args.number c.self.invariant legal new channel c.push_reserved.ensures.items flights)
     (unmap_count old c.args.actor c.args.h c.args.number c.self.invariant legal new channel c.push_reserved.ensures.items flights)
-    (ap (λ (b : Books Load). b.cargo) flights)
+    (ap (λ (b : Books Load). b.cargo) flights) (ap (λ (b : Books Load). b.over) flights)
     (stay_known old.history (Called c.args.actor (UnmapFrame c.args.h c.args.number) reply.Done) (is_there old.history) (reach_at old.worlds) refl (λ objects. refl) c.self.invariant.kept)
     c.self.invariant.shown
     c.bury.ensures.forgotten c.bury.ensures.known refl c.push_reserved.ensures.capacity
@@ -124,7 +124,7 @@ returns-clause-stands c =
     c.push_reserved.ensures.items
     (unmap_flies old c.args.actor c.args.h c.args.number c.self.invariant legal new channel c.push_reserved.ensures.items flights)
     (unmap_count old c.args.actor c.args.h c.args.number c.self.invariant legal new channel c.push_reserved.ensures.items flights)
-    (ap (λ (b : Books Load). b.cargo) flights)
+    (ap (λ (b : Books Load). b.cargo) flights) (ap (λ (b : Books Load). b.over) flights)
     (stay_known old.history (Called c.args.actor (UnmapFrame c.args.h c.args.number) reply.Done) (is_there old.history) (reach_at old.worlds) refl (λ objects. refl) c.self.invariant.kept)
     c.self.invariant.shown
     c.bury.ensures.forgotten c.bury.ensures.known refl c.push_reserved.ensures.capacity)

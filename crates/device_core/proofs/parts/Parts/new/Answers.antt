@@ -11,6 +11,8 @@ use Rattle.seq_model.specs.Extensions.{let_follow, let_follow_from}
 use Rattle.world_snapshot.specs.Worlds.{World}
 use Rattle.device_laws.specs.FramesStand.{FramesStand}
 use Rattle.device_laws.proofs.FramesStandFacts.{frames_first}
+use Rattle.device_laws.specs.Over.{AllOver}
+use Rattle.device_laws.proofs.OverFacts.{none_over}
 use Rattle.device_laws.specs.Flown.{Flown, LetsNotes, runs_of}
 use Rattle.device_laws.proofs.StandingFacts.{first_flown}
 use Rattle.device_core.specs.AllParts.{AreParts, IsLoaded, shown_by}
@@ -38,6 +40,7 @@ invariant_of-result c =
       kept = c.new-3.ensures.known (is_there []);
       shown = subst (λ (w : Worlds World). AreShown [] (shown_at shown_by w)) (sym c.new-3.ensures.empty) (λ _. tt);
       built = built_first;
+      over = subst (AllOver []) (sym c.new-2.ensures.over) none_over;
       places = subst (λ (s : Future). length {A = Entry} [] + length s.flights < vec_capacity c.reserve.new.self) (sym c.new-2.ensures.future)
           (let enough = c.in_ok-reserve.ensures.ok in let none = ap length c.new-journal.ensures.items in omega (arith, enough, none));
     })

@@ -13,12 +13,14 @@ use Rattle.object_steps.proofs.Rested.{ranked}
 use Rattle.seq_model.specs.Soundness.{IsRanked}
 use Rattle.seq_model.specs.Steps.{after, next_place}
 use Rattle.seq_model.specs.Told.{end_of_object, gone}
+use Rattle.device_laws.specs.Over.{AllOver}
+use Rattle.device_laws.proofs.OverFacts.{note_over}
 use Rattle.device_laws.specs.Flown.{Flown, runs_of}
 use Rattle.device_core.specs.AllParts.{AreParts, Inside, IsLoaded}
 use Rattle.device_core.specs.Holds.{held_less, with_holds}
 use Rattle.device_core.specs.Notes.{HasNoted, HasNotedNothing, note}
 use Rattle.device_core.specs.declared.loads.Load.{Load}
-use Rattle.device_core.proofs.NotedFacts.{IsEnding, ending, follows, holds_it, moved, noted_fewer, noted_parts, noted_stands, noted_told, own_frame}
+use Rattle.device_core.proofs.NotedFacts.{IsEnding, ending, follows, holds_it, moved, noted, noted_fewer, noted_parts, noted_stands, noted_told, own_frame}
 use Rattle.device_laws.proofs.FramesStandFacts.{fewer_kept, looked_stands}
 use Rattle.device_core.specs.Standing.{IsStanding}
 use Rattle.device_core.proofs.SeenFacts.{none_seen, seen_count}
@@ -26,8 +28,8 @@ use Rattle.device_core.proofs.parts.Parts.note_next.Goals as goal
 
 -- where no flight ended, all holds as before
 unended : (old : Inside) (flights : Books Load) → AreParts old → runs_of flights.future.flights ≡ runs_of old.flights.future.flights → length flights.future.flights ≡ length old.flights.future.flights
-    → flights.cargo ≡ old.flights.cargo → AreParts (record old { flights = flights })
-unended old flights p runs count cargo = record {
+    → flights.cargo ≡ old.flights.cargo → flights.over ≡ old.flights.over → AreParts (record old { flights = flights })
+unended old flights p runs count cargo over = record {
   rest = p.rest;
   flown = subst (Flown old.history) (sym runs) p.flown;
   loaded = subst (AllByRecursion (IsLoaded old.history)) (sym cargo) p.loaded;
@@ -35,6 +37,7 @@ unended old flights p runs count cargo = record {
   kept = p.kept;
   shown = p.shown;
   built = p.built;
+  over = subst (AllOver old.history) (sym over) p.over;
   places = subst (λ n. length old.history + n < old.room) (sym count) p.places;
 }
 
@@ -42,7 +45,7 @@ pub invariant_of-self : goal.invariant_of-self
 invariant_of-self c =
     let old : Inside = record { objects = c.self.inside.objects; flights = c.self.inside.flights; worlds = c.self.inside.worlds; history = c.self.inside.journal.items; room = vec_capacity c.self.inside.journal; builds = c.self.inside.builds } in
     let runs = none_seen c.args.after old.flights.future c.next_ended.new.self.future c.in-None.ensures.seen in
-    unended old c.next_ended.new.self c.self.invariant runs (seen_count old.flights.future c.next_ended.new.self.future runs) c.in-None.ensures.cargo
+    unended old c.next_ended.new.self c.self.invariant runs (seen_count old.flights.future c.next_ended.new.self.future runs) c.in-None.ensures.cargo (c.in-None.ensures.over ∙ append-nil old.flights.over)
 
 pub end_flight-requires : goal.end_flight-requires
 end_flight-requires c =
@@ -105,6 +108,8 @@ invariant_of-self-2 c =
     (c.push_reserved.ensures.items ∙ ap (λ n. old.history ++ n ∷ []) c.note_of.ensures)
     (ap (λ (b : Books Load). b.future.flights) c.bury.ensures.flights ∙ (fewer_kept c.next_ended.new.self.future c.bury.new.objects.departed).0)
     (ap (λ (b : Books Load). b.cargo) c.bury.ensures.flights ∙ c.in-Some.ensures.cargo.1)
+    (subst (AllOver (old.history ++ note e.left e.ticket ∷ [])) (sym (ap (λ (b : Books Load). b.over) c.bury.ensures.flights ∙ c.in-Some.ensures.over))
+    (note_over old.history c.args.after old.flights.future c.next_ended.new.self.future e old.flights.over (noted old e cargo left x).legal c.in-Some.ensures.seen c.self.invariant.over))
     c.bury.ensures.forgotten c.bury.ensures.known refl c.push_reserved.ensures.capacity
 
 pub returns-clause-home : goal.returns-clause-home
@@ -145,6 +150,8 @@ returns-clause-noted c =
           (c.push_reserved.ensures.items ∙ ap (λ n. old.history ++ n ∷ []) c.note_of.ensures)
           (ap (λ (b : Books Load). b.future.flights) c.bury.ensures.flights ∙ (fewer_kept c.next_ended.new.self.future c.bury.new.objects.departed).0)
           (ap (λ (b : Books Load). b.cargo) c.bury.ensures.flights ∙ c.in-Some.ensures.cargo.1)
+          (subst (AllOver (old.history ++ note e.left e.ticket ∷ [])) (sym (ap (λ (b : Books Load). b.over) c.bury.ensures.flights ∙ c.in-Some.ensures.over))
+          (note_over old.history c.args.after old.flights.future c.next_ended.new.self.future e old.flights.over (noted old e cargo left x).legal c.in-Some.ensures.seen c.self.invariant.over))
           c.bury.ensures.forgotten c.bury.ensures.known refl c.push_reserved.ensures.capacity
           notices;
       fewer = noted_fewer old (record { objects = c.bury.new.objects; flights = c.bury.new.flights; worlds = c.bury.new.worlds; history = c.push_reserved.new.self.items; room = vec_capacity c.push_reserved.new.self; builds = c.self.inside.builds }) e cargo left x
@@ -156,6 +163,8 @@ returns-clause-noted c =
           (c.push_reserved.ensures.items ∙ ap (λ n. old.history ++ n ∷ []) c.note_of.ensures)
           (ap (λ (b : Books Load). b.future.flights) c.bury.ensures.flights ∙ (fewer_kept c.next_ended.new.self.future c.bury.new.objects.departed).0)
           (ap (λ (b : Books Load). b.cargo) c.bury.ensures.flights ∙ c.in-Some.ensures.cargo.1)
+          (subst (AllOver (old.history ++ note e.left e.ticket ∷ [])) (sym (ap (λ (b : Books Load). b.over) c.bury.ensures.flights ∙ c.in-Some.ensures.over))
+          (note_over old.history c.args.after old.flights.future c.next_ended.new.self.future e old.flights.over (noted old e cargo left x).legal c.in-Some.ensures.seen c.self.invariant.over))
           c.bury.ensures.forgotten c.bury.ensures.known refl c.push_reserved.ensures.capacity
           notices;
       room = c.push_reserved.ensures.capacity;
@@ -191,6 +200,8 @@ returns-clause-stands c =
     (c.push_reserved.ensures.items ∙ ap (λ n. old.history ++ n ∷ []) c.note_of.ensures)
     (ap (λ (b : Books Load). b.future.flights) c.bury.ensures.flights ∙ (fewer_kept c.next_ended.new.self.future c.bury.new.objects.departed).0)
     (ap (λ (b : Books Load). b.cargo) c.bury.ensures.flights ∙ c.in-Some.ensures.cargo.1)
+    (subst (AllOver (old.history ++ note e.left e.ticket ∷ [])) (sym (ap (λ (b : Books Load). b.over) c.bury.ensures.flights ∙ c.in-Some.ensures.over))
+    (note_over old.history c.args.after old.flights.future c.next_ended.new.self.future e old.flights.over (noted old e cargo left x).legal c.in-Some.ensures.seen c.self.invariant.over))
     c.bury.ensures.forgotten c.bury.ensures.known refl c.push_reserved.ensures.capacity
     c.args.after c.next_ended.new.self.future c.in-Some.ensures.seen (ap (λ (b : Books Load). b.future) c.bury.ensures.flights) (subst IsStanding (sym c.self.view_is) stands)
 
