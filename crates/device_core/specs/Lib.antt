@@ -11,3 +11,4 @@ pub mod Unmaps
 pub mod Calls
 pub mod Renders
 pub mod Sweeps
+pub mod Uses

@@ -15,6 +15,7 @@ mod records;
 mod renders;
 mod sweeps;
 mod unmaps;
+mod uses;
 
 pub use loads::Load;
 pub use parts::Parts;
