@@ -236,21 +236,6 @@ impl Parts {
         Ok(())
     }
 
-    /// Makes room in the journal for a render and for the note of its flight, beside the notes of the
-    /// other flights.
-    fn make_places_to_fly(&mut self) -> Result<(), NoMemory>
-        ensures places { OnOk result (length self.old.history
-            + length self.old.flights.future.flights + 2 < self.new.room) }
-        ensures same { self.new ≡ record self.old { room = self.new.room } }
-        ensures grows { self.old.room ≤ self.new.room }
-    {
-        let Some(more) = self.flights.flight_count().checked_add(3) else {
-            return Err(NoMemory);
-        };
-        self.journal.reserve(more)?;
-        Ok(())
-    }
-
     /// Renders a frame to which no refusal applies, and enters that, as `enter_render`; these are
     /// the visits of the walk from the frame.
     ///
@@ -275,7 +260,8 @@ impl Parts {
         ensures err { OnErr result (HasRoomMade self.old self.new) }
     {
         self.are_parts();
-        self.make_places_to_fly()?;
+        // One place is for the note of the flight.
+        self.make_places(2)?;
         self.enter_render(alloc, actor, frame, visits)
     }
 

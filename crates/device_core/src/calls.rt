@@ -70,7 +70,7 @@ impl Parts {
         ensures returned { IfErr result (λ e. (e.1 ≡ call) × (e.2 ≡ with)) }
         ensures err { OnErr result (HasRoomMade self.old self.new) }
     {
-        let Ok(()) = self.make_place() else {
+        let Ok(()) = self.make_places(1) else {
             return Err((NoMemory, call, with));
         };
         let Ok(()) = self.objects.make_ready(alloc, &call) else {
@@ -79,14 +79,18 @@ impl Parts {
         self.answer_call(alloc, actor, call, with)
     }
 
-    /// Makes room in the journal for one entry more, beside the notes of the flights.
-    fn make_place(&mut self) -> Result<(), NoMemory>
-        ensures place { OnOk result (length self.old.history + length self.old.flights.future.flights
-            + 1 < self.new.room) }
+    /// Makes room in the journal for so many entries, beside the notes of the flights.
+    pub(crate) fn make_places(&mut self, places: usize) -> Result<(), NoMemory>
+        ensures places { OnOk result (length self.old.history + length self.old.flights.future.flights
+            + places < self.new.room) }
         ensures same { self.new ≡ record self.old { room = self.new.room } }
         ensures grows { self.old.room ≤ self.new.room }
     {
-        let Some(more) = self.flights.flight_count().checked_add(2) else {
+        let flights = self.flights.flight_count();
+        let Some(places) = flights.checked_add(places) else {
+            return Err(NoMemory);
+        };
+        let Some(more) = places.checked_add(1) else {
             return Err(NoMemory);
         };
         self.journal.reserve(more)?;
