@@ -1,4 +1,4 @@
-use Rattle.std.proofs.Common.{◌≡◌, ◌∙◌, None, sym, ap, subst}
+use Rattle.std.proofs.Common.{◌∙◌, sym, ap, subst}
 use Rattle.std.specs.Prelude.{vec_capacity}
 use Rattle.std.specs.Option.{is_some}
 use Rattle.kept_worlds.specs.KeptMaps.{reach_at}
