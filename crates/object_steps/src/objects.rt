@@ -3,10 +3,12 @@ ghost use Rattle.std.specs.Prelude.{◌≡◌, ◌+◌, ◌-◌, ◌++◌, ◌<�
 ghost use Rattle.std.specs.BTreeMap.{is_at};
 ghost use Rattle.std.specs.List.{filter_map};
 ghost use Rattle.std.specs.Map.{keys_of, set_value};
+ghost use Rattle.std.specs.Option.{is_some};
 ghost use Rattle.std.specs.Ordering.{nat_cmp};
 ghost use Rattle.object_store.specs.Ends.{ended, notice_of};
 ghost use Rattle.object_store.specs.Gathers.{IsLeft, buried};
 ghost use Rattle.object_store.specs.Kept.{number_at};
+ghost use Rattle.object_store.specs.Parts.{at};
 ghost use Rattle.seq_model.specs.Soundness.{IsRanked};
 ghost use Rattle.seq_model.specs.State.{empty, object_at};
 ghost use Rattle.seq_model.specs.Told.{end_of_object, gone};
@@ -80,6 +82,14 @@ impl ObjectStore {
         ensures { result.now ≡ self.now.departed }
     {
         &self.departed
+    }
+
+    /// The public references to an object; `None` exactly where it is not there.
+    pub fn public(&self, h: Handle) -> Option<u64>
+        ensures value { result ≡ at h self.now.stored.public }
+        ensures there { is_some result ≡ is_some (object_at self.now.stored.state h) }
+    {
+        self.store.public(h)
     }
 
     /// Of how many ends the client is to be told: how many arrays there are whose memory the
