@@ -34,6 +34,7 @@ use Rattle.device_laws.specs.Flown.{Flown, LetsNotes, runs_of}
 use Rattle.device_laws.specs.FramesStand.{FramesStand, LeavesBut, without_pictures}
 use Rattle.device_laws.specs.Lent.{moves_channels}
 use Rattle.device_laws.specs.Over.{AllOver}
+use Rattle.device_laws.specs.Replies.{AreTold}
 use Rattle.device_laws.proofs.OverFacts.{others_over}
 use Rattle.device_laws.proofs.CallFacts.{call_kept}
 use Rattle.device_laws.proofs.FlyFacts.{call_flown}
@@ -119,7 +120,7 @@ module _ (old new : Inside) (actor : ℕ) (call : Call) (r : Reply) (moved : Sto
   called_parts stands place = parts_after old new (Called actor call r) moved mid p no_close follows counted_moved counted is_left is_buried departed grown flown
       (subst (AllByRecursion (IsLoaded (old.history ++ Called actor call r ∷ []))) (sym cargo) (all_loaded old.history (Called actor call r) old.flights.cargo p.loaded))
       (subst (AllOver (old.history ++ Called actor call r ∷ [])) (sym over) (others_over old.history (Called actor call r) old.flights.over follows.legal refl p.over))
-      (called_lets old.history actor call r stands.open_) touched shows forgotten known
+      (called_lets old.history actor call r stands.frames.open_) touched shows forgotten known
       (same ∙ p.built ∙ sym (same_builds old.history (Called actor call r) quiet))
       (let longer = ap length grown ∙ length-append old.history (Called actor call r ∷ []) in omega (arith, place, longer, count, room))
 
@@ -148,7 +149,10 @@ module _ (old : Inside) (actor : ℕ) (call : Call) (r : Reply) (p : AreParts ol
   moved_count new flights = ap (λ (b : Books Load). length b.future.flights) flights ∙ ap length (fewer_kept old.flights.future new.objects.departed).0
 
   pub moved_stands : (new : Inside) → new.history ≡ old.history ++ Called actor call r ∷ [] → new.flights ≡ with_future old.flights (without_pictures old.flights.future new.objects.departed)
-      → LeavesBut old.history (Called actor call r) new.objects.departed → IsStanding old → IsStanding new
-  moved_stands new grown flights left stands =
-      subst (λ h. FramesStand h new.flights.future) (sym grown) (subst (λ (b : Books Load). FramesStand (old.history ++ Called actor call r ∷ []) b.future) (sym flights)
-      (call_kept old.history actor call r old.flights.future new.objects.departed (no_flight_moves actor call r objects) (no_channel_moves actor call r objects) p.flown left stands))
+      → LeavesBut old.history (Called actor call r) new.objects.departed → AreTold (old.history ++ Called actor call r ∷ []) old.flights.future.flights → IsStanding old → IsStanding new
+  moved_stands new grown flights left told stands = record {
+    frames = subst (λ h. FramesStand h new.flights.future) (sym grown) (subst (λ (b : Books Load). FramesStand (old.history ++ Called actor call r ∷ []) b.future) (sym flights)
+        (call_kept old.history actor call r old.flights.future new.objects.departed (no_flight_moves actor call r objects) (no_channel_moves actor call r objects) p.flown left stands.frames));
+    told = subst (λ h. AreTold h new.flights.future.flights) (sym grown)
+        (subst (AreTold (old.history ++ Called actor call r ∷ [])) (sym (ap (λ (b : Books Load). b.future.flights) flights ∙ (fewer_kept old.flights.future new.objects.departed).0)) told);
+  }

@@ -26,6 +26,8 @@ use Rattle.device_laws.proofs.CallFacts.{discard_kept}
 use Rattle.device_laws.proofs.FlyFacts.{discard_flown}
 use Rattle.device_laws.proofs.FramesStandFacts.{fewer_kept}
 use Rattle.device_laws.proofs.FutureFacts.{discarded_runs}
+use Rattle.device_laws.specs.Replies.{AreTold}
+use Rattle.device_laws.proofs.ReplyFacts.{discarded_told, quiet_told}
 use Rattle.device_core.specs.AllParts.{AreParts, Inside}
 use Rattle.device_core.specs.Standing.{IsStanding}
 use Rattle.device_core.proofs.KeptFacts.{there_as}
@@ -78,6 +80,10 @@ module _ (old : Inside) (actor h room : ℕ) (p : AreParts old) (legal : Legal (
     discard_count = ap (λ (s : Future). length s.flights) flights ∙ ap length (fewer_kept mid new.objects.departed).0 ∙ same_count h old.flights.future mid kept discarded
 
     pub discard_stands : LeavesBut old.history entry new.objects.departed → IsStanding old → IsStanding new
-    discard_stands left stands =
-        subst (λ history. FramesStand history new.flights.future) (sym grown) (subst (FramesStand (old.history ++ entry ∷ [])) (sym flights)
-        (discard_kept old.history actor h old.flights.future mid new.objects.departed kept discarded p.flown left stands))
+    discard_stands left stands = record {
+      frames = subst (λ history. FramesStand history new.flights.future) (sym grown) (subst (FramesStand (old.history ++ entry ∷ [])) (sym flights)
+          (discard_kept old.history actor h old.flights.future mid new.objects.departed kept discarded p.flown left stands.frames));
+      told = subst (λ history. AreTold history new.flights.future.flights) (sym grown)
+          (subst (AreTold (old.history ++ entry ∷ [])) (sym (ap (λ (s : Future). s.flights) flights ∙ (fewer_kept mid new.objects.departed).0))
+          (quiet_told old.history entry mid.flights refl (discarded_told old.history h old.flights.future mid discarded stands.told)));
+    }

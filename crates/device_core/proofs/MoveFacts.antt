@@ -9,11 +9,13 @@ use Rattle.object_steps.specs.Resting.{IsOfObjects}
 use Rattle.object_steps.specs.declared.array_loans.ArrayLoan.{ArrayLoan}
 use Rattle.seq_model.specs.Answers.{answer, granted}
 use Rattle.seq_model.specs.Contents.{entered}
+use Rattle.seq_model.specs.Legal.{reading}
 use Rattle.seq_model.specs.Refusals.{refusal, refusals_of}
 use Rattle.seq_model.specs.State.{Object, State, object_at}
 use Rattle.seq_model.specs.Steps.{Past}
 use Rattle.seq_model.specs.declared.calls.Call.{Call}
-use Rattle.seq_model.specs.declared.calls.Call.TheVariants.{RenderFrame, DiscardFrame, MapFrame, UnmapArray, UnmapFrame, UnmapParameterArray}
+use Rattle.seq_model.specs.declared.calls.Call.TheVariants.{FrameReady, RenderFrame, DiscardFrame, MapFrame, UnmapArray, UnmapFrame, UnmapParameterArray}
+use Rattle.seq_model.specs.declared.calls.Entry.TheVariants.{Called}
 use Rattle.seq_model.specs.declared.calls.Reply.{Reply}
 use Rattle.seq_model.specs.declared.calls.Reply.TheVariants as reply
 use Rattle.seq_model.proofs.Granted.{AllNone, all_none, does_not_apply}
@@ -28,6 +30,13 @@ nothing_moves (MapFrame h channel) (reply.Mapped width height t rows) quiet stil
 nothing_moves (DiscardFrame h) reply.Done quiet still = absurd cc
 nothing_moves (UnmapFrame h number) reply.Done quiet still = absurd cc
 nothing_moves call r quiet still = tt
+
+-- nor does its reply tell of one
+pub reads_nothing : (past : Past) (actor : ℕ) (call : Call) (r : Reply) → tells_of_flights call ≡ false → reading past (Called actor call r) ≡ None
+reads_nothing past actor (RenderFrame h) r quiet = absurd cc
+reads_nothing past actor (FrameReady h wait) r quiet = absurd cc
+reads_nothing past actor (MapFrame h channel) r quiet = absurd cc
+reads_nothing past actor call r quiet = refl
 
 frame_of : ℕ → Move → ℕ
 frame_of d (move.Discard h) = h

@@ -18,7 +18,7 @@ use Rattle.object_store.specs.Ends.{notice_of}
 use Rattle.object_store.specs.Gathers.{IsLeft, buried}
 use Rattle.object_steps.specs.Resting.{Follows}
 use Rattle.seq_model.specs.Histories.{History, frame_at, rendered}
-use Rattle.seq_model.specs.Legal.{Legal}
+use Rattle.seq_model.specs.Legal.{Legal, reading}
 use Rattle.seq_model.specs.Life.{has}
 use Rattle.seq_model.specs.Steps.{after, change, next_place}
 use Rattle.seq_model.specs.declared.calls.Entry.TheVariants.{Closed}
@@ -31,7 +31,10 @@ use Rattle.device_laws.proofs.StandingFacts.{found}
 use Rattle.device_core.specs.AllParts.{AreParts, Inside, IsLoaded}
 use Rattle.device_laws.specs.Over.{AllOver}
 use Rattle.device_laws.specs.FramesStand.{FramesStand, without_pictures}
+use Rattle.device_laws.specs.Replies.{AreTold}
+use Rattle.device_laws.proofs.FramesStandFacts.{fewer_kept}
 use Rattle.device_laws.proofs.NoteFacts.{note_kept}
+use Rattle.device_laws.proofs.ReplyFacts.{quiet_told, seen_told}
 use Rattle.device_core.specs.Standing.{IsStanding}
 use Rattle.device_core.proofs.EntryFacts.{leaves, others_loaded, parts_after, same_builds}
 use Rattle.kept_worlds.proofs.LastFacts.{stay_known}
@@ -200,8 +203,16 @@ module _ (old new : Inside) (e : Ended) (c : Cargo Load) (left : List Flying) (x
   -- and the frames stand on
   pub noted_stands : (last : ℕ) (looked : Future) → AreSeen last old.flights.future looked (Some e) → new.flights.future ≡ without_pictures looked new.objects.departed
       → IsStanding old → IsStanding new
-  noted_stands last looked seen frames stands =
-      subst (λ h. FramesStand h new.flights.future) (sym grown) (subst (FramesStand (old.history ++ note e.left e.ticket ∷ [])) (sym frames)
-      (note_kept old.history last old.flights.future looked e new.objects.departed x.parts.rest.legal x.rising x.parts.flown seen
-      (leaves old.history (note e.left e.ticket) (moved old e c left x).stored new.objects.stored new.objects.departed (no_close e.left e.ticket) (follows old e c left x)
-      counted_moved counted is_left is_buried departed) stands))
+  noted_stands last looked seen frames stands = record {
+    frames = subst (λ h. FramesStand h new.flights.future) (sym grown) (subst (FramesStand (old.history ++ note e.left e.ticket ∷ [])) (sym frames)
+        (note_kept old.history last old.flights.future looked e new.objects.departed x.parts.rest.legal x.rising x.parts.flown seen
+        (leaves old.history (note e.left e.ticket) (moved old e c left x).stored new.objects.stored new.objects.departed (no_close e.left e.ticket) (follows old e c left x)
+        counted_moved counted is_left is_buried departed) stands.frames));
+    told = subst (λ h. AreTold h new.flights.future.flights) (sym grown)
+        (subst (AreTold (old.history ++ note e.left e.ticket ∷ [])) (sym (ap (λ (s : Future). s.flights) frames ∙ (fewer_kept looked new.objects.departed).0))
+        (quiet_told old.history (note e.left e.ticket) looked.flights (reads_nothing e.left e.ticket) (seen_told old.history last old.flights.future looked (Some e) seen stands.told)));
+  }
+    where
+      reads_nothing : (stopped : Bool) (t : ℕ) → reading (after old.history) (note stopped t) ≡ None
+      reads_nothing true t = refl
+      reads_nothing false t = refl

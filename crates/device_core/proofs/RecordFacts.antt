@@ -46,7 +46,7 @@ frame_cargo i frame f parts books kept flies = by (cargo_of i.flights frame) ref
 
 -- a frame that is in flight by the history has its flight
 pub flies_as : (i : Inside) (h t : ℕ) → AreParts i → IsStanding i → phase_at (after i.history) h ≡ Flight t → (f : Flying) × (flight_of i.flights.future h ≡ Some f) × (f.ticket ≡ t)
-flies_as i h t parts stands phase = by (flight_of i.flights.future h) (shown_by i.flights.future h) refl refl (sym (phases_agree i.history i.flights.future parts.flown stands.stands h) ∙ phase)
+flies_as i h t parts stands phase = by (flight_of i.flights.future h) (shown_by i.flights.future h) refl refl (sym (phases_agree i.history i.flights.future parts.flown stands.frames.stands h) ∙ phase)
   where
     by : (o : Option Flying) (p : Option Finished) → flight_of i.flights.future h ≡ o → shown_by i.flights.future h ≡ p → phase_as (phase_by o p) ≡ Flight t
         → (f : Flying) × (flight_of i.flights.future h ≡ Some f) × (f.ticket ≡ t)
@@ -62,14 +62,14 @@ asked_same xs ys c same = ap (λ zs. slice_index_or zs (number_of_channel c) fal
 
 -- and one that is done its picture, with the channels that it asked for
 pub asks_as : (i : Inside) (h t : ℕ) → AreParts i → IsStanding i → phase_at (after i.history) h ≡ Done t → (c : Channel) → slice_index_or (asked_by i.flights.future h) (number_of_channel c) false ≡ has_channel i.history t c
-asks_as i h t parts stands phase c = by (flight_of i.flights.future h) (shown_by i.flights.future h) refl refl (sym (phases_agree i.history i.flights.future parts.flown stands.stands h) ∙ phase)
+asks_as i h t parts stands phase c = by (flight_of i.flights.future h) (shown_by i.flights.future h) refl refl (sym (phases_agree i.history i.flights.future parts.flown stands.frames.stands h) ∙ phase)
   where
     by : (o : Option Flying) (p : Option Finished) → flight_of i.flights.future h ≡ o → shown_by i.flights.future h ≡ p → phase_as (phase_by o p) ≡ Done t
         → slice_index_or (asked_by i.flights.future h) (number_of_channel c) false ≡ has_channel i.history t c
     by (Some f) p some shown is = absurd cc
     by None (Some p) none some is =
         let same : p.ticket ≡ t = cc in
-        let shows = (found (λ (p : Finished). ShowsRender i.history p.ticket p.key p.channels) (is_picture_of h) i.flights.future.pictures p stands.shows.pictures some).0 in
+        let shows = (found (λ (p : Finished). ShowsRender i.history p.ticket p.key p.channels) (is_picture_of h) i.flights.future.pictures p stands.frames.shows.pictures some).0 in
         asked_same (asked_by i.flights.future h) p.channels c (ap (λ o. option_map_or (λ (p : Finished). p.channels) o (false ∷ false ∷ false ∷ false ∷ [])) some)
         ∙ shows.asked c ∙ ap (λ t. has_channel i.history t c) same
     by None None none shown is = absurd cc

@@ -49,6 +49,8 @@ use Rattle.device_laws.proofs.CallFacts.{render_kept}
 use Rattle.device_laws.proofs.FlownFacts.{joined, render_adds}
 use Rattle.device_laws.proofs.FramesStandFacts.{fewer_kept}
 use Rattle.device_laws.specs.Over.{AllOver}
+use Rattle.device_laws.specs.Replies.{AreTold}
+use Rattle.device_laws.proofs.ReplyFacts.{begun_told, quiet_told}
 use Rattle.device_laws.proofs.OverFacts.{others_over}
 use Rattle.device_laws.specs.Flown.{Flown, run_of, runs_of}
 use Rattle.device_laws.specs.FramesStand.{FramesStand, LeavesBut, without_pictures}
@@ -225,7 +227,7 @@ module _ (old : Inside) (actor f : ℕ) (p : AreParts old) (legal : Legal (old.h
           (subst (λ (b : Books Load). AllByRecursion (IsLoaded (old.history ++ render_of actor f ∷ [])) b.cargo) (sym flights)
           (joined (IsLoaded (old.history ++ render_of actor f ∷ [])) old.flights.cargo (t.cargo ∷ []) (all_loaded old.history (render_of actor f) old.flights.cargo p.loaded) (load_is, tt)))
           (subst (λ (b : Books Load). AllOver (old.history ++ render_of actor f ∷ []) b.over) (sym flights) (others_over old.history (render_of actor f) old.flights.over legal refl p.over))
-          (called_lets old.history actor (RenderFrame f) reply.Done stands.open_) touched shows forgotten known
+          (called_lets old.history actor (RenderFrame f) reply.Done stands.frames.open_) touched shows forgotten known
           (counts ∙ ap (λ n. n + cond build 1 0) p.built
           ∙ ap (λ b. builds old.history + cond b 1 0) (wanted ∙ ap (λ o. wants_build o old.worlds f) same_objects)
           ∙ sym (render_counted old.history actor f old.worlds p.rest.legal p.kept))
@@ -251,10 +253,16 @@ module _ (old : Inside) (actor f : ℕ) (p : AreParts old) (legal : Legal (old.h
           render_kept old.history actor old.flights.future flight new.objects.departed ticket_is going
           (takes.scene ∙ scene_after ∙ ap (scene (scene_objects (after old.history).state)) (sym frame_is))
           (λ c. takes.asked c ∙ asks_read c ∙ ap (λ h. asks_for (after old.history).state h c) (sym frame_is))
-          p.flown (subst (λ h. LeavesBut old.history (render_of actor h) new.objects.departed) (sym frame_is) left) stands in
-          subst (λ h. FramesStand h new.flights.future) (sym grown)
-          (subst (λ (b : Books Load). FramesStand (old.history ++ render_of actor f ∷ []) b.future) (sym flights)
-          (subst (λ h. FramesStand (old.history ++ render_of actor h ∷ []) (without_pictures (with_flight old.flights.future flight) new.objects.departed)) frame_is kept))
+          p.flown (subst (λ h. LeavesBut old.history (render_of actor h) new.objects.departed) (sym frame_is) left) stands.frames in
+          record {
+            frames = subst (λ h. FramesStand h new.flights.future) (sym grown)
+                (subst (λ (b : Books Load). FramesStand (old.history ++ render_of actor f ∷ []) b.future) (sym flights)
+                (subst (λ h. FramesStand (old.history ++ render_of actor h ∷ []) (without_pictures (with_flight old.flights.future flight) new.objects.departed)) frame_is kept));
+            told = subst (λ h. AreTold h new.flights.future.flights) (sym grown)
+                (subst (AreTold (old.history ++ render_of actor f ∷ [])) (sym frames_are)
+                (quiet_told old.history (render_of actor f) (old.flights.future.flights ++ flight ∷ []) refl
+                (begun_told old.history old.flights.future.flights flight ticket_is (let none : 0 ≤ flight.view.gives.last = omega arith in none) stands.told)));
+          }
 
       pub rendered_enters : filter_map notice_of new.objects.dead ≡ filter_map end_of_object (gone moved_now.state new.objects.stored.state) → HasEntered actor (RenderFrame f) reply.Done old new
       rendered_enters notices = record {

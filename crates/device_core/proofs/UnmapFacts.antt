@@ -28,6 +28,8 @@ use Rattle.device_laws.proofs.FramesStandFacts.{fewer_kept}
 use Rattle.device_laws.proofs.GrantFacts.{unmap_starts}
 use Rattle.device_laws.proofs.LoanFacts.{unmap_kept}
 use Rattle.device_laws.proofs.StandingFacts.{found}
+use Rattle.device_laws.specs.Replies.{AreTold}
+use Rattle.device_laws.proofs.ReplyFacts.{quiet_told}
 use Rattle.device_core.specs.AllParts.{AreParts, Inside}
 use Rattle.device_core.specs.Standing.{IsStanding}
 use Rattle.device_core.specs.declared.loads.Load.{Load}
@@ -78,13 +80,17 @@ module _ (old : Inside) (actor h number : ℕ) (p : AreParts old) (legal : Legal
     pub unmap_stands : IsKept old.flights.future → refusal (after old.history) (UnmapFrame h number) ≡ None → loan_in (mapped_at (after old.history) h) c ≡ Some number
         → LeavesBut old.history entry new.objects.departed → IsStanding old → IsStanding new
     unmap_stands kept out lent left stands =
-        let starts = unmap_starts old.history old.flights.future p.flown stands h number p.rest.legal out in
+        let starts = unmap_starts old.history old.flights.future p.flown stands.frames h number p.rest.legal out in
         let shown : shown_by old.flights.future h ≡ Some starts.0 = starts.2 in
-        let mine : IsLent old.history starts.0 = (found (IsLent old.history) (is_picture_of h) old.flights.future.pictures starts.0 stands.lent shown).0 in
-        let frame : starts.0.frame ≡ h = picture_frame h starts.0 (found (IsLent old.history) (is_picture_of h) old.flights.future.pictures starts.0 stands.lent shown).1 in
+        let mine : IsLent old.history starts.0 = (found (IsLent old.history) (is_picture_of h) old.flights.future.pictures starts.0 stands.frames.lent shown).0 in
+        let frame : starts.0.frame ≡ h = picture_frame h starts.0 (found (IsLent old.history) (is_picture_of h) old.flights.future.pictures starts.0 stands.frames.lent shown).1 in
         let is_out : loan_of starts.0.loans c ≡ Some number = mine.loans c ∙ ap (λ f. loan_in (mapped_at (after old.history) f) c) frame ∙ lent in
-        subst (λ history. FramesStand history new.flights.future) (sym grown) (subst (λ (b : Books Load). FramesStand (old.history ++ entry ∷ []) b.future) (sym flights)
-        (unmap_kept old.history actor h number c old.flights.future starts.0 new.objects.departed p.rest.legal kept shown is_out p.flown left stands))
+        record {
+          frames = subst (λ history. FramesStand history new.flights.future) (sym grown) (subst (λ (b : Books Load). FramesStand (old.history ++ entry ∷ []) b.future) (sym flights)
+              (unmap_kept old.history actor h number c old.flights.future starts.0 new.objects.departed p.rest.legal kept shown is_out p.flown left stands.frames));
+          told = subst (λ history. AreTold history new.flights.future.flights) (sym grown)
+              (subst (AreTold (old.history ++ entry ∷ [])) (sym frames_are) (quiet_told old.history entry old.flights.future.flights refl stands.told));
+        }
       where
         picture_frame : (h : ℕ) (p : Finished) → is_picture_of h p ≡ true → p.frame ≡ h
         picture_frame h p is = eqb-true p.frame h is
@@ -92,6 +98,6 @@ module _ (old : Inside) (actor h number : ℕ) (p : AreParts old) (legal : Legal
 -- where a loan is out, it is that of a channel
 pub lent_channel : (old : Inside) (h number : ℕ) → AreParts old → IsStanding old → refusal (after old.history) (UnmapFrame h number) ≡ None → (c : Channel) × (loan_in (mapped_at (after old.history) h) c ≡ Some number)
 lent_channel old h number p stands out =
-    let starts = unmap_starts old.history old.flights.future p.flown stands h number p.rest.legal out in
-    let both = found (IsLent old.history) (is_picture_of h) old.flights.future.pictures starts.0 stands.lent starts.2 in
+    let starts = unmap_starts old.history old.flights.future p.flown stands.frames h number p.rest.legal out in
+    let both = found (IsLent old.history) (is_picture_of h) old.flights.future.pictures starts.0 stands.frames.lent starts.2 in
     (starts.1, ap (λ f. loan_in (mapped_at (after old.history) f) starts.1) (sym (eqb-true starts.0.frame h both.1)) ∙ sym (both.0.loans starts.1) ∙ starts.3)

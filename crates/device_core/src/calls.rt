@@ -16,6 +16,7 @@ ghost use Rattle.seq_model.specs.Steps.{after};
 ghost use Rattle.seq_model.specs.declared.calls.Entry.TheVariants.{Called};
 ghost use Rattle.world_laws.specs.Alike.{Shown as ShownWorld};
 ghost use Rattle.device_laws.specs.FramesStand.{without_pictures};
+ghost use Rattle.device_laws.specs.Replies.{AreTold};
 ghost use Rattle.device_core.specs.Calls.{AreMoved, HasEntered, HasRoomMade, move_of, touched_by};
 ghost use Rattle.device_core.specs.Standing.{IsStanding};
 
@@ -188,6 +189,8 @@ impl Parts {
         requires of_objects { IsOfObjects call reply }
         requires legal { Legal (self.old.history ++ Called actor call reply ∷ []) }
         requires gives { GivesBack call reply with }
+        requires tells { AreTold (self.old.history ++ Called actor call reply ∷ [])
+            self.old.flights.future.flights }
         ensures entered { OnOk result (HasEntered actor call reply self.old self.new) }
         ensures frames { OnOk result (self.new.flights ≡ with_future self.old.flights
             (without_pictures self.old.flights.future self.new.objects.departed)) }

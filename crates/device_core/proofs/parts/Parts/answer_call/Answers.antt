@@ -12,7 +12,8 @@ use Rattle.seq_model.specs.Answers.{answer}
 use Rattle.seq_model.specs.Contents.{entered}
 use Rattle.seq_model.specs.Steps.{after}
 use Rattle.object_steps.proofs.Applied.{can_be_carried, entry_is_quiet, legal, loan_comes_back}
-use Rattle.device_core.proofs.MoveFacts.{discard_is, discarded_is_there, done_is_granted, moved_hands, nothing_moves, unmap_is}
+use Rattle.device_core.proofs.MoveFacts.{discard_is, discarded_is_there, done_is_granted, moved_hands, nothing_moves, reads_nothing, unmap_is}
+use Rattle.device_laws.proofs.ReplyFacts.{quiet_told}
 use Rattle.device_core.proofs.parts.Parts.answer_call.Goals as goal
 
 pub enter_call-requires-clause-can : goal.enter_call-requires-clause-can
@@ -20,7 +21,7 @@ enter_call-requires-clause-can c =
     let i = c.args.self.now in
     let is : c.parted-entry.result.0 ≡ entered (after i.history) c.args.call = c.parted-entry.ensures.entry ∙ c.in-Ok.ensures.entered in
     let answered : answer (after i.history) c.parted-entry.result.0 ≡ Some c.in-Ok.decided.reply = ap (answer (after i.history)) c.parted-entry.ensures.entry ∙ c.in-Ok.ensures.answered in
-    can_be_carried i.objects.stored i.history c.are_parts.ensures.rest c.requires.stands.open_ c.args.call c.parted-entry.result.0 c.in-Ok.decided.reply c.requires.quiet is answered
+    can_be_carried i.objects.stored i.history c.are_parts.ensures.rest c.requires.stands.frames.open_ c.args.call c.parted-entry.result.0 c.in-Ok.decided.reply c.requires.quiet is answered
     (nothing_moves c.parted-entry.result.0 c.in-Ok.decided.reply (entry_is_quiet (after i.history) c.args.call c.parted-entry.result.0 is c.requires.quiet) (sym c.move_of.ensures ∙ c.in-Nothing.is)) c.requires.short c.requires.ready
 
 pub enter_call-requires-clause-of_objects : goal.enter_call-requires-clause-of_objects
@@ -34,14 +35,21 @@ enter_call-requires-clause-legal c =
     let i = c.args.self.now in
     let is : c.parted-entry.result.0 ≡ entered (after i.history) c.args.call = c.parted-entry.ensures.entry ∙ c.in-Ok.ensures.entered in
     let answered : answer (after i.history) c.parted-entry.result.0 ≡ Some c.in-Ok.decided.reply = ap (answer (after i.history)) c.parted-entry.ensures.entry ∙ c.in-Ok.ensures.answered in
-    legal i.objects.stored i.history c.are_parts.ensures.rest c.requires.stands.open_ c.args.call c.parted-entry.result.0 c.in-Ok.decided.reply c.requires.quiet is answered c.args.actor
+    legal i.objects.stored i.history c.are_parts.ensures.rest c.requires.stands.frames.open_ c.args.call c.parted-entry.result.0 c.in-Ok.decided.reply c.requires.quiet is answered c.args.actor
 
 pub enter_call-requires-clause-gives : goal.enter_call-requires-clause-gives
 enter_call-requires-clause-gives c =
     let i = c.args.self.now in
     let is : c.parted-entry.result.0 ≡ entered (after i.history) c.args.call = c.parted-entry.ensures.entry ∙ c.in-Ok.ensures.entered in
     let answered : answer (after i.history) c.parted-entry.result.0 ≡ Some c.in-Ok.decided.reply = ap (answer (after i.history)) c.parted-entry.ensures.entry ∙ c.in-Ok.ensures.answered in
-    loan_comes_back i.objects.stored i.history c.are_parts.ensures.rest c.requires.stands.open_ c.args.call c.parted-entry.result.0 c.in-Ok.decided.reply c.requires.quiet is answered c.args.with c.requires.brings
+    loan_comes_back i.objects.stored i.history c.are_parts.ensures.rest c.requires.stands.frames.open_ c.args.call c.parted-entry.result.0 c.in-Ok.decided.reply c.requires.quiet is answered c.args.with c.requires.brings
+
+pub enter_call-requires-clause-tells : goal.enter_call-requires-clause-tells
+enter_call-requires-clause-tells c =
+    let i = c.args.self.now in
+    let is : c.parted-entry.result.0 ≡ entered (after i.history) c.args.call = c.parted-entry.ensures.entry ∙ c.in-Ok.ensures.entered in
+    quiet_told i.history (Called c.args.actor c.parted-entry.result.0 c.in-Ok.decided.reply) i.flights.future.flights
+    (reads_nothing (after i.history) c.args.actor c.parted-entry.result.0 c.in-Ok.decided.reply (entry_is_quiet (after i.history) c.args.call c.parted-entry.result.0 is c.requires.quiet)) c.requires.stands.told
 
 pub enter_discard-requires-clause-there : goal.enter_discard-requires-clause-there
 enter_discard-requires-clause-there c =
@@ -59,7 +67,7 @@ enter_discard-requires-clause-unmapped c =
     let answered : answer (after i.history) c.parted-entry.result.0 ≡ Some c.in-Ok.decided.reply = ap (answer (after i.history)) c.parted-entry.ensures.entry ∙ c.in-Ok.ensures.answered in
     let call = discard_is c.parted-entry.result.0 c.in-Ok.decided.reply c.in-Discard.h (sym c.move_of.ensures ∙ c.in-Discard.is) in
     let none = done_is_granted (after i.history) (DiscardFrame c.in-Discard.h) (ap (answer (after i.history)) (sym call.0) ∙ answered ∙ ap Some call.1) in
-    discard_starts i.history i.flights.future c.requires.stands c.in-Discard.h none
+    discard_starts i.history i.flights.future c.requires.stands.frames c.in-Discard.h none
 
 pub enter_discard-requires-clause-legal : goal.enter_discard-requires-clause-legal
 enter_discard-requires-clause-legal c =
@@ -68,7 +76,7 @@ enter_discard-requires-clause-legal c =
     let answered : answer (after i.history) c.parted-entry.result.0 ≡ Some c.in-Ok.decided.reply = ap (answer (after i.history)) c.parted-entry.ensures.entry ∙ c.in-Ok.ensures.answered in
     let call = discard_is c.parted-entry.result.0 c.in-Ok.decided.reply c.in-Discard.h (sym c.move_of.ensures ∙ c.in-Discard.is) in
     let none = done_is_granted (after i.history) (DiscardFrame c.in-Discard.h) (ap (answer (after i.history)) (sym call.0) ∙ answered ∙ ap Some call.1) in
-    subst (λ call. Legal (i.history ++ Called c.args.actor call reply.Done ∷ [])) call.0 (subst (λ r. Legal (i.history ++ Called c.args.actor c.parted-entry.result.0 r ∷ [])) call.1 (legal i.objects.stored i.history c.are_parts.ensures.rest c.requires.stands.open_ c.args.call c.parted-entry.result.0 c.in-Ok.decided.reply c.requires.quiet is answered c.args.actor))
+    subst (λ call. Legal (i.history ++ Called c.args.actor call reply.Done ∷ [])) call.0 (subst (λ r. Legal (i.history ++ Called c.args.actor c.parted-entry.result.0 r ∷ [])) call.1 (legal i.objects.stored i.history c.are_parts.ensures.rest c.requires.stands.frames.open_ c.args.call c.parted-entry.result.0 c.in-Ok.decided.reply c.requires.quiet is answered c.args.actor))
 
 pub enter_unmap-requires-clause-out : goal.enter_unmap-requires-clause-out
 enter_unmap-requires-clause-out c =
@@ -86,7 +94,7 @@ enter_unmap-requires-clause-legal c =
     let answered : answer (after i.history) c.parted-entry.result.0 ≡ Some c.in-Ok.decided.reply = ap (answer (after i.history)) c.parted-entry.ensures.entry ∙ c.in-Ok.ensures.answered in
     let call = unmap_is c.parted-entry.result.0 c.in-Ok.decided.reply c.in-Unmap.h c.in-Unmap.number (sym c.move_of.ensures ∙ c.in-Unmap.is) in
     let none = done_is_granted (after i.history) (UnmapFrame c.in-Unmap.h c.in-Unmap.number) (ap (answer (after i.history)) (sym call.0) ∙ answered ∙ ap Some call.1) in
-    subst (λ call. Legal (i.history ++ Called c.args.actor call reply.Done ∷ [])) call.0 (subst (λ r. Legal (i.history ++ Called c.args.actor c.parted-entry.result.0 r ∷ [])) call.1 (legal i.objects.stored i.history c.are_parts.ensures.rest c.requires.stands.open_ c.args.call c.parted-entry.result.0 c.in-Ok.decided.reply c.requires.quiet is answered c.args.actor))
+    subst (λ call. Legal (i.history ++ Called c.args.actor call reply.Done ∷ [])) call.0 (subst (λ r. Legal (i.history ++ Called c.args.actor c.parted-entry.result.0 r ∷ [])) call.1 (legal i.objects.stored i.history c.are_parts.ensures.rest c.requires.stands.frames.open_ c.args.call c.parted-entry.result.0 c.in-Ok.decided.reply c.requires.quiet is answered c.args.actor))
 
 pub returns-in-Ok-enter_discard-clause-handed : goal.returns-in-Ok-enter_discard-clause-handed
 returns-in-Ok-enter_discard-clause-handed c =

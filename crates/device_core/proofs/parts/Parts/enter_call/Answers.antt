@@ -16,6 +16,7 @@ use Rattle.seq_model.specs.Legal.{Legal}
 use Rattle.seq_model.specs.Soundness.{IsRanked}
 use Rattle.seq_model.specs.Told.{end_of_object, gone}
 use Rattle.seq_model.specs.declared.calls.Entry.TheVariants.{Called}
+use Rattle.device_laws.specs.Replies.{AreTold}
 use Rattle.device_core.specs.AllParts.{Inside, shown_by}
 use Rattle.device_core.specs.Calls.{HasEntered}
 use Rattle.device_core.specs.Standing.{IsStanding}
@@ -123,6 +124,7 @@ returns-clause-stands c =
     (c.touch.ensures.known old.history c.args.actor (is_there old.history) c.self.invariant.kept)
     (c.touch.ensures.shown shown_by old.history c.self.invariant.shown)
     c.bury.ensures.forgotten c.bury.ensures.known refl c.push_reserved.ensures.capacity)
+    (subst (λ (i : Inside). AreTold (i.history ++ e ∷ []) i.flights.future.flights) (sym c.self.view_is) c.requires.tells)
     (subst IsStanding (sym c.self.view_is) c.requires.stands)
 
 pub returns-clause-home : goal.returns-clause-home

@@ -70,7 +70,7 @@ begin_kept-requires-clause-landed c =
     subst (λ (s : Stored). HasEachOnce (visited (walk (scene_objects s.state) f)) load.reach.items) c.store-store.ensures c.in_ok-load.ensures.reach in
     let shows : scene_of_load load ≡ scene (scene_objects old.objects.stored.state) f = c.in_ok-load.ensures.scene ∙ ap (λ (s : Stored). scene (scene_objects s.state) f) c.store-store.ensures in
     let within = c.in_ok-load.ensures.within in
-    ap (flight_of old.flights.future) (ap (λ (x : Cargo Load). x.frame) takes.cargo) ∙ landed old.history old.flights.future actor f legal p.flown stands.stands
+    ap (flight_of old.flights.future) (ap (λ (x : Cargo Load). x.frame) takes.cargo) ∙ landed old.history old.flights.future actor f legal p.flown stands.frames.stands
 
 pub begin_kept-requires-clause-unmapped : goal.begin_kept-requires-clause-unmapped
 begin_kept-requires-clause-unmapped c =
@@ -90,7 +90,7 @@ begin_kept-requires-clause-unmapped c =
     subst (λ (s : Stored). HasEachOnce (visited (walk (scene_objects s.state) f)) load.reach.items) c.store-store.ensures c.in_ok-load.ensures.reach in
     let shows : scene_of_load load ≡ scene (scene_objects old.objects.stored.state) f = c.in_ok-load.ensures.scene ∙ ap (λ (s : Stored). scene (scene_objects s.state) f) c.store-store.ensures in
     let within = c.in_ok-load.ensures.within in
-    ap (is_mapped old.flights.future) (ap (λ (x : Cargo Load). x.frame) takes.cargo) ∙ unmapped old.history old.flights.future actor f legal p.flown stands.lent
+    ap (is_mapped old.flights.future) (ap (λ (x : Cargo Load). x.frame) takes.cargo) ∙ unmapped old.history old.flights.future actor f legal p.flown stands.frames.lent
 
 pub begin_kept-requires-clause-later : goal.begin_kept-requires-clause-later
 begin_kept-requires-clause-later c =
@@ -110,7 +110,7 @@ begin_kept-requires-clause-later c =
     subst (λ (s : Stored). HasEachOnce (visited (walk (scene_objects s.state) f)) load.reach.items) c.store-store.ensures c.in_ok-load.ensures.reach in
     let shows : scene_of_load load ≡ scene (scene_objects old.objects.stored.state) f = c.in_ok-load.ensures.scene ∙ ap (λ (s : Stored). scene (scene_objects s.state) f) c.store-store.ensures in
     let within = c.in_ok-load.ensures.within in
-    subst (IsLater old.flights.future) (sym (ap (λ (x : Cargo Load). x.ticket) takes.cargo)) (later old.history old.flights.future actor f legal p.flown stands.stands)
+    subst (IsLater old.flights.future) (sym (ap (λ (x : Cargo Load). x.ticket) takes.cargo)) (later old.history old.flights.future actor f legal p.flown stands.frames.stands)
 
 pub show-requires : goal.show-requires
 show-requires c =

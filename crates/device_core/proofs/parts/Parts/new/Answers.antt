@@ -13,6 +13,7 @@ use Rattle.device_laws.specs.FramesStand.{FramesStand}
 use Rattle.device_laws.proofs.FramesStandFacts.{frames_first}
 use Rattle.device_laws.specs.Over.{AllOver}
 use Rattle.device_laws.proofs.OverFacts.{none_over}
+use Rattle.device_laws.specs.Replies.{AreTold}
 use Rattle.device_laws.specs.Flown.{Flown, LetsNotes, runs_of}
 use Rattle.device_laws.proofs.StandingFacts.{first_flown}
 use Rattle.device_core.specs.AllParts.{AreParts, IsLoaded, shown_by}
@@ -46,5 +47,7 @@ invariant_of-result c =
     })
 
 pub returns-clause-stands : goal.returns-clause-stands
-returns-clause-stands c =
-    subst (λ h. FramesStand h c.new-2.result.future) (sym (c.reserve.ensures.items ∙ c.new-journal.ensures.items)) (subst (FramesStand []) (sym c.new-2.ensures.future) frames_first)
+returns-clause-stands c = record {
+  frames = subst (λ h. FramesStand h c.new-2.result.future) (sym (c.reserve.ensures.items ∙ c.new-journal.ensures.items)) (subst (FramesStand []) (sym c.new-2.ensures.future) frames_first);
+  told = subst (λ (s : Future). AreTold c.reserve.new.self.items s.flights) (sym c.new-2.ensures.future) tt;
+}

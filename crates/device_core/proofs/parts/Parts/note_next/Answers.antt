@@ -1,4 +1,4 @@
-use Rattle.std.proofs.Common.{◌≡◌, ◌∙◌, ℕ, ◌+◌, ◌<◌, ◌≤◌, true, [], ◌∷◌, ◌++◌, length, refl, sym, ap, subst}
+use Rattle.std.proofs.Common.{◌≡◌, ◌∙◌, ℕ, ◌+◌, ◌<◌, ◌≤◌, true, [], ◌∷◌, ◌++◌, length, refl, sym, ap, subst, None}
 use Rattle.std.specs.Prelude.{slice_index_or, vec_capacity}
 use Rattle.std.specs.List.{AllByRecursion, filter_map}
 use Rattle.std.specs.Map.{keys_of}
@@ -22,6 +22,7 @@ use Rattle.device_core.specs.Notes.{HasNoted, HasNotedNothing, note}
 use Rattle.device_core.specs.declared.loads.Load.{Load}
 use Rattle.device_core.proofs.NotedFacts.{IsEnding, ending, follows, holds_it, moved, noted, noted_fewer, noted_parts, noted_stands, noted_told, own_frame}
 use Rattle.device_laws.proofs.FramesStandFacts.{fewer_kept, looked_stands}
+use Rattle.device_laws.proofs.ReplyFacts.{seen_told}
 use Rattle.device_core.specs.Standing.{IsStanding}
 use Rattle.device_core.proofs.SeenFacts.{none_seen, seen_count}
 use Rattle.device_core.proofs.parts.Parts.note_next.Goals as goal
@@ -206,5 +207,9 @@ returns-clause-stands c =
     c.args.after c.next_ended.new.self.future c.in-Some.ensures.seen (ap (λ (b : Books Load). b.future) c.bury.ensures.flights) (subst IsStanding (sym c.self.view_is) stands)
 
 pub returns-in-None-clause-stands : goal.returns-in-None-clause-stands
-returns-in-None-clause-stands c =
-    λ stands. looked_stands c.self.inside.journal.items c.args.after c.self.inside.flights.future c.next_ended.new.self.future c.in-None.ensures.seen (subst IsStanding (sym c.self.view_is) stands)
+returns-in-None-clause-stands c = λ stands.
+    let before : IsStanding (record { objects = c.self.inside.objects; flights = c.self.inside.flights; worlds = c.self.inside.worlds; history = c.self.inside.journal.items; room = vec_capacity c.self.inside.journal; builds = c.self.inside.builds }) = subst IsStanding (sym c.self.view_is) stands in
+    record {
+      frames = looked_stands c.self.inside.journal.items c.args.after c.self.inside.flights.future c.next_ended.new.self.future c.in-None.ensures.seen before.frames;
+      told = seen_told c.self.inside.journal.items c.args.after c.self.inside.flights.future c.next_ended.new.self.future None c.in-None.ensures.seen before.told;
+    }

@@ -11,7 +11,7 @@ use Rattle.device_core.proofs.parts.Parts.render.Goals as goal
 pub enter_render-requires-clause-legal : goal.enter_render-requires-clause-legal
 enter_render-requires-clause-legal c =
     subst (λ h. Legal (h ++ render_of c.args.actor c.args.frame ∷ [])) (sym (ap (λ (i : Inside). i.history) c.make_places.ensures.same))
-    (render_legal c.args.self.now.history c.args.actor c.args.frame c.are_parts.ensures.rest.legal c.requires.stands.open_ c.requires.granted)
+    (render_legal c.args.self.now.history c.args.actor c.args.frame c.are_parts.ensures.rest.legal c.requires.stands.frames.open_ c.requires.granted)
 
 pub returns-clause-begun : goal.returns-clause-begun
 returns-clause-begun c =

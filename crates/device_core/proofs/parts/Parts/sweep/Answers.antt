@@ -6,6 +6,7 @@ use Rattle.frame_future.specs.Flights.{Flying}
 use Rattle.object_store.specs.Ends.{notice_of}
 use Rattle.object_steps.specs.Objects.{tellable}
 use Rattle.seq_model.specs.Told.{told}
+use Rattle.device_core.specs.Deaths.{all_told}
 use Rattle.device_core.specs.AllParts.{Inside}
 use Rattle.device_core.specs.Standing.{IsStanding}
 use Rattle.device_core.proofs.SweepFacts.{IsSweeping, noted_tells, sweeping_begins, sweeping_fewer, sweeping_on, sweeping_over}
@@ -23,6 +24,13 @@ loop-ticket-smaller g c =
     let one = sweeping_fewer c.args.self.now c.loop-ticket.self c.note_next.new.self c.loop-ticket.last c.in-Some.ticket c.loop-ticket.invariant.0 c.in-Some.ensures.noted in
     let same = ap (λ (i : Inside). length i.flights.future.flights) c.tell.ensures.none in
     omega (arith, one, same)
+
+-- telling leaves all but who is still to be told
+stands_told : (i : Inside) → IsStanding i → IsStanding (all_told i)
+stands_told i s = record {
+  frames = s.frames;
+  told = s.told;
+}
 
 pub loop-ticket-preserved : goal.loop-ticket-preserved
 loop-ticket-preserved g c =
@@ -43,7 +51,7 @@ loop-ticket-preserved g c =
       (λ first is. c.tell.ensures.told ∙ ap (λ ns. ns ++ filter_map notice_of mid.objects.dead) (before.2 first is) ∙ append_assoc first (told now.history) (filter_map notice_of mid.objects.dead)
           ∙ ap (λ ns. first ++ ns) (noted_tells now mid c.loop-ticket.last c.in-Some.ticket noted ∙ ap (λ (i : Inside). told i.history) (sym c.tell.ensures.none))),
       omega (arith, so_far, room, told_now),
-      (λ stands. subst IsStanding (sym c.tell.ensures.none) (c.note_next.ensures.stands (before.4 stands))),
+      (λ stands. subst IsStanding (sym c.tell.ensures.none) (stands_told mid (c.note_next.ensures.stands (before.4 stands)))),
     )
 
 pub returns-clause-swept : goal.returns-clause-swept
