@@ -1,5 +1,7 @@
 -- What a render makes of what a device keeps: of its worlds, of its builds, and of what is kept with its flight.
-use Rattle.std.proofs.Common.{◌≡◌, ◌∙◌, ℕ, ◌+◌, ◌==◌, ◌<◌, Bool, true, false, List, [], ◌∷◌, ◌++◌, Option, Some, None, length, length-append, refl, sym, ap, subst, arith}
+use Rattle.std.specs.Prelude.{slice_index_or}
+use Rattle.frame_future.specs.Flights.{Flying}
+use Rattle.std.proofs.Common.{◌≡◌, ◌∙◌, ℕ, ◌+◌, ◌==◌, ◌<◌, Bool, true, false, List, [], ◌∷◌, ◌++◌, Option, Some, None, length, length-append, refl, sym, ap, subst, arith, zero, suc}
 use Rattle.std.specs.Prelude.{Err, IfSome, IsSome, IsSomeAnd, Ok, OnOk, Result, codes, cond}
 use Rattle.std.specs.Option.{MatchOption, is_none, is_some, option_and_then, option_map, option_map_or, option_or, unwrap_or}
 use Rattle.dev_types.specs.Counting.{times}
@@ -238,3 +240,11 @@ unfolding IsAnswer answer
 render_legal history actor f legal open_ none =
     one_call_more history actor (RenderFrame f) reply.Done legal (open_ actor (RenderFrame f) reply.Done)
     (subst (λ x. MatchOption x ⊥ (λ a. IsLike a reply.Done)) (sym (ap (λ x. option_or (option_map reply.Denied x) (Some reply.Done)) none)) refl) refl tt
+
+-- one flight more that is at home
+pub home_more : (fs : List Flying) (f : Flying) → f.home ≡ true → ((k : ℕ) (d : Flying) → k < length fs → (slice_index_or fs k d).home ≡ true)
+    → (k : ℕ) (d : Flying) → k < length (fs ++ f ∷ []) → (slice_index_or (fs ++ f ∷ []) k d).home ≡ true
+home_more [] f is all zero d within = is
+home_more [] f is all (suc k) d within = absurd (omega (arith, within))
+home_more (g ∷ fs) f is all zero d within = all zero d (omega arith)
+home_more (g ∷ fs) f is all (suc k) d within = home_more fs f is (λ j e less. all (suc j) e (omega (arith, less))) k d (omega (arith, within))

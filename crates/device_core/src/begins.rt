@@ -5,7 +5,7 @@ ghost use Rattle.dev_types.specs.Counting.{times};
 ghost use Rattle.flight_books.specs.Kept.{cargo_at};
 ghost use Rattle.frame_future.specs.Channels.{is_asked};
 ghost use Rattle.frame_future.specs.Flights.{IsNew};
-ghost use Rattle.frame_future.specs.Future.{IsLater, flight_of, is_mapped};
+ghost use Rattle.frame_future.specs.Future.{AreHome, IsLater, flight_of, is_mapped};
 ghost use Rattle.frame_future.specs.Pixels.{IsSized};
 ghost use Rattle.kept_worlds.specs.KeptMaps.{kept_at, reach_at, shown_at};
 ghost use Rattle.kept_worlds.specs.LastKept.{AreKept, AreShown, is_there};
@@ -210,6 +210,7 @@ impl Parts {
             self.old self.new) }
         ensures begun { OnOk result (HasBegun frame self.old self.new) }
         ensures stands { OnOk result (IsStanding self.new) }
+        ensures home { OnOk result (AreHome self.old.flights.future → AreHome self.new.flights.future) }
         ensures err { OnErr result (HasRoomMade self.old self.new) }
     {
         let place = self.entries() + 1;
@@ -257,6 +258,7 @@ impl Parts {
             self.old self.new) }
         ensures begun { OnOk result (HasBegun frame self.old self.new) }
         ensures stands { IsStanding self.new }
+        ensures home { AreHome self.old.flights.future → AreHome self.new.flights.future }
         ensures err { OnErr result (HasRoomMade self.old self.new) }
     {
         self.are_parts();

@@ -1,6 +1,9 @@
-use Rattle.std.proofs.Common.{◌≡◌, ◌∙◌, ◌+◌, ◌≤◌, ◌<◌, ◌^◌, ◌++◌, ◌∷◌, [], All, Bool, true, false, arith, cond, length, refl, subst, sym, ap}
+use Rattle.std.proofs.Common.{◌≡◌, ◌∙◌, ℕ, ◌+◌, ◌≤◌, ◌<◌, ◌^◌, ◌++◌, ◌∷◌, [], All, Bool, true, false, arith, cond, length, refl, subst, sym, ap}
 use mir.Val.{bool_byte}
-use Rattle.std.specs.Prelude.{vec_capacity}
+use Rattle.std.specs.Prelude.{slice_index_or, vec_capacity}
+use Rattle.frame_future.specs.Flights.{Flying, begun}
+use Rattle.device_laws.proofs.FramesStandFacts.{fewer_kept}
+use Rattle.device_core.proofs.RenderSteps.{home_more}
 use Rattle.std.specs.List.{filter_map}
 use Rattle.std.specs.Map.{keys_of}
 use Rattle.flight_books.specs.Kept.{Books, with_future}
@@ -416,3 +419,13 @@ returns-clause-stands c =
     (c.in_ok-begin_kept.ensures.shown old.history f wanted_after p.shown)
     c.bury.ensures.forgotten c.bury.ensures.known counts exactly c.push_reserved.ensures.capacity
     stands
+
+pub returns-clause-home : goal.returns-clause-home
+returns-clause-home c = λ home.
+    let t = c.in_ok-takeoff.takeoff in
+    let flight : Flying = begun t.cargo.ticket t.cargo.frame t.channels t.claims t.seat in
+    let flights : c.bury.new.flights.future.flights ≡ c.self.inside.flights.future.flights ++ flight ∷ [] =
+    ap (λ (b : Books Load). b.future.flights) c.bury.ensures.flights ∙ (fewer_kept c.begin_kept.new.flights.future c.bury.new.objects.departed).0 ∙ ap (λ (b : Books Load). b.future.flights) c.in_ok-begin_kept.ensures.begun in
+    let before : (k : ℕ) (d : Flying) → k < length c.self.inside.flights.future.flights → (slice_index_or c.self.inside.flights.future.flights k d).home ≡ true =
+    subst (λ (i : Inside). (k : ℕ) (d : Flying) → k < length i.flights.future.flights → (slice_index_or i.flights.future.flights k d).home ≡ true) (sym c.self.view_is) home in
+    subst (λ fs. (k : ℕ) (d : Flying) → k < length fs → (slice_index_or fs k d).home ≡ true) (sym flights) (home_more c.self.inside.flights.future.flights flight refl before)
