@@ -7,7 +7,6 @@ pub mod EntryFacts
 pub mod FollowFacts
 pub mod HoldFacts
 pub mod KeptFacts
-pub mod LookFacts
 pub mod MoveFacts
 pub mod NotedFacts
 pub mod OnceFacts

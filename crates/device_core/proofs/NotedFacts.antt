@@ -51,7 +51,7 @@ use Rattle.kept_worlds.specs.LastKept.{AreKept, is_there}
 use Rattle.object_steps.proofs.Rested.{ends_told}
 use Rattle.object_steps.specs.Objects.{Objects, tellable, with_state}
 use Rattle.seq_model.specs.Told.{end_of_object, gone, status_at, told_by}
-use Rattle.device_core.proofs.LookFacts.{IsWithout}
+use Rattle.device_laws.proofs.NoteFacts.{IsWithout}
 use Rattle.device_core.proofs.SeenFacts.{IsOver, one_seen}
 use Rattle.device_core.proofs.TellFacts.{noted_tellable}
 use Rattle.object_steps.proofs.Tellables.{fewer_told}

@@ -11,16 +11,7 @@ use Rattle.frame_future.specs.Reads.{AreSeen, ended_by, left_by}
 use Rattle.frame_future.specs.declared.phase.Ended.{Ended}
 use Rattle.device_laws.specs.Flown.{Run, run_of, runs_of}
 use Rattle.device_laws.proofs.FramesStandFacts.{none_ended, three}
-use Rattle.device_core.proofs.LookFacts.{IsWithout, one_ended}
-
--- more runs before and behind
-wider : (runs left : List Run) (r : Run) (passed more : List Run) → IsWithout runs left r → IsWithout (passed ++ (runs ++ more)) (passed ++ (left ++ more)) r
-wider runs left r passed more w = record {
-  before = passed ++ w.before;
-  behind = w.behind ++ more;
-  there = ap (λ rs. passed ++ (rs ++ more)) w.there ∙ ap (λ rs. passed ++ rs) (append_assoc w.before (r ∷ w.behind) more) ∙ sym (append_assoc passed w.before (r ∷ (w.behind ++ more)));
-  rest = ap (λ rs. passed ++ (rs ++ more)) w.rest ∙ ap (λ rs. passed ++ rs) (append_assoc w.before w.behind more) ∙ sym (append_assoc passed w.before (w.behind ++ more));
-}
+use Rattle.device_laws.proofs.NoteFacts.{IsWithout, one_ended, wider}
 
 abbrev ticket_first : List Flying → ℕ
 ticket_first [] = 0

@@ -46,7 +46,7 @@ abbrev rest_of : List Flying → List Flying
 rest_of [] = []
 rest_of (f ∷ fs) = fs
 
-one_ended : (fs : List Flying) (reads : List ℕ) (g : Flying) → AreRead fs reads → ended_by fs reads ≡ g ∷ [] → IsWithout (runs_of fs) (runs_of (left_by fs reads)) (run_of g)
+pub one_ended : (fs : List Flying) (reads : List ℕ) (g : Flying) → AreRead fs reads → ended_by fs reads ≡ g ∷ [] → IsWithout (runs_of fs) (runs_of (left_by fs reads)) (run_of g)
 one_ended [] [] g read one = absurd cc
 one_ended [] (x ∷ reads) g read one = absurd read
 one_ended (f ∷ fs) [] g read one = absurd read
@@ -70,7 +70,7 @@ one_ended (f ∷ fs) (x ∷ reads) g read one = by (is_end f x) one (one_ended f
         }
 
 -- more runs before and behind
-wider : (runs left : List Run) (r : Run) (passed more : List Run) → IsWithout runs left r → IsWithout (passed ++ (runs ++ more)) (passed ++ (left ++ more)) r
+pub wider : (runs left : List Run) (r : Run) (passed more : List Run) → IsWithout runs left r → IsWithout (passed ++ (runs ++ more)) (passed ++ (left ++ more)) r
 wider runs left r passed more w = record {
   before = passed ++ w.before;
   behind = w.behind ++ more;
