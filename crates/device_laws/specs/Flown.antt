@@ -1,6 +1,7 @@
 -- The flights that a device keeps are those of its history.
 use Rattle.std.specs.Prelude.{◌≡◌, ℕ, ◌==◌, Bool, false, true, List, Some, map, if◌then◌else◌}
 use Rattle.std.specs.List.{AllByRecursion}
+use Rattle.flight_books.specs.Sweeps.{note}
 use Rattle.frame_future.specs.Flights.{Flying, is_stopped}
 use Rattle.seq_model.specs.Extensions.{let_follow}
 use Rattle.seq_model.specs.Histories.{History, frame_at}
@@ -9,7 +10,6 @@ use Rattle.seq_model.specs.Life.{has}
 use Rattle.seq_model.specs.State.{flights}
 use Rattle.seq_model.specs.Steps.{after}
 use Rattle.seq_model.specs.declared.calls.Entry.{Entry}
-use Rattle.seq_model.specs.declared.calls.Entry.TheVariants.{Finished, Left}
 
 -- a flight by its ticket, its frame, and whether it was stopped: what no look at it, no seat of it and no lending of it changes
 pub record Run : Type 0 where
@@ -36,7 +36,7 @@ stopped_runs frame runs = map (stopped_run frame) runs
 
 -- the note of a run that ends
 abbrev pub note_of_run : Run → Entry
-note_of_run r = if r.stopped then Left r.ticket else Finished r.ticket
+note_of_run r = note r.stopped r.ticket
 
 -- the run began by a render of its frame; where its flight was stopped in the history, it was stopped. It may be stopped before a note of the
 -- history tells that: that is how a device ends

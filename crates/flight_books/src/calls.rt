@@ -1,10 +1,11 @@
 //! Pictures that are mapped, flights that are lent, and what is kept with a flight.
 ghost use Rattle.std.specs.Prelude.{◌≡◌, ◌↔◌, ◌⊎◌, ◌<◌, Err, None, Some, false, true, IfErr, IfOk, IfSome, IsOk, IsSome, OnErr, OnOk};
+ghost use Rattle.std.specs.Borrow.{Lends, sem};
 ghost use Rattle.std.specs.Option.{IsSomeAnd};
 ghost use Rattle.dev_types.specs.declared.refusals.Refused.TheVariants as refused;
 ghost use Rattle.tile_claims.specs.Seats.{view};
 ghost use Rattle.frame_future.specs.Flights.{Flying, awaited, away, back, is_stopped, IsOfFlight, IsWorked};
-ghost use Rattle.frame_future.specs.Future.{flight_at, flight_of, given_back, lent_as, loan_ended, loan_from, refusal_of_map, shown_by, with_flight_at, with_picture, without_picture, AreHome, IsCount, IsOut};
+ghost use Rattle.frame_future.specs.Future.{flight_at, flight_of, given_back, lent_as, loan_ended, loan_from, refusal_of_map, shown_by, with_flight_at, with_picture, without_picture, AreHome, IsCount, IsHandout, IsOut};
 ghost use Rattle.flight_books.specs.Kept.{cargo_at, with_future, with_kept};
 
 use crate::books::{FlightBooks, place_of};
@@ -15,6 +16,8 @@ use std::mem;
 use tile_claims::{Claims, Seat};
 
 impl<T> FlightBooks<T> {
+    ghost use Rattle.flight_books.specs.contracts.books.FlightBooks.{the_row};
+
     /// Lends a channel of the frame's picture under this number, as
     /// [`Frames::map`](frame_future::Frames::map) does.
     ///
@@ -89,6 +92,26 @@ impl<T> FlightBooks<T> {
         self.frames.claimed(ticket)
     }
 
+    /// A handle to the claims of the flight with this ticket, and another seat of them. `Ok(None)`
+    /// exactly where a look reads all tiles claimed, or 2^20 seats were handed out.
+    ///
+    /// # Errors
+    ///
+    /// Want of memory alone.
+    pub fn hand_out_of(
+        &mut self,
+        alloc: Global,
+        ticket: u64,
+    ) -> Result<Option<(Claims, Seat)>, NoMemory>
+        requires { IsSomeAnd (flight_at self.old.future ticket) (λ f. f.home ≡ true) }
+        ensures handed { IfSome (flight_at self.old.future ticket)
+            (λ f. (g : Flying) × IsHandout f g result
+            × (self.new ≡ with_future self.old (with_flight_at self.old.future ticket g))) }
+        ensures home { AreHome self.old.future → AreHome self.new.future }
+    {
+        self.frames.hand_out(alloc, ticket)
+    }
+
     /// Takes the claims of the flight with this ticket, which was not stopped, with their first
     /// seat, until [`FlightBooks::put_back`].
     pub fn lend(&mut self, ticket: u64) -> (Claims, Seat)
@@ -113,6 +136,19 @@ impl<T> FlightBooks<T> {
             ≡ with_future self.old (with_flight_at self.old.future ticket (back seat f))) }
     {
         self.frames.put_back(ticket, claims, seat);
+    }
+
+    /// What is kept with the flight with this ticket, to be changed.
+    pub fn kept_mut(&mut self, ticket: u64) -> &mut T
+        requires { IsSome (cargo_at self.old.cargo ticket) }
+        // The books end with what was last written, with that flight alone.
+        ensures* writes_back { sem 𝓛 (Lends (the_row T.row) T.row self.entry result
+            (with_kept self.old ticket)) }
+        ensures value { IfSome (cargo_at self.old.cargo ticket) (λ c. result.now ≡ c.kept) }
+    {
+        let place = place_of(&self.cargo, ticket);
+        let cargo = &mut self.cargo[place];
+        &mut cargo.kept
     }
 
     /// Keeps something else with the flight with this ticket. What was kept comes back.

@@ -35,6 +35,13 @@ impl<T> FlightBooks<T> {
         }
     }
 
+    /// What is kept with the flights, in their order.
+    pub fn cargo(&self) -> &[Cargo<T>]
+        ensures { result.now ≡ self.now.cargo }
+    {
+        &self.cargo
+    }
+
     /// How many flights there are, those that were stopped among them.
     pub fn flight_count(&self) -> usize
         ensures { result ≡ length self.now.future.flights }

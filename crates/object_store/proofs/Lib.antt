@@ -9,7 +9,6 @@ pub mod DeadSteps
 pub mod Deaths
 pub mod Dying
 pub mod Gathered
-pub mod HeldUp
 pub mod Holdings
 pub mod Keyed
 pub mod Leaving
