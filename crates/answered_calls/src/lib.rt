@@ -6,5 +6,8 @@
 mod laws;
 mod telling;
 
-pub use laws::{answers_may_be_given, what_comes_back_names_what_is_there};
-pub use telling::tell_status;
+pub use laws::{
+    answers_may_be_given, replies_tell_of_the_flight_of_the_frame,
+    what_comes_back_names_what_is_there,
+};
+pub use telling::{source_of, tell_status, with_given};

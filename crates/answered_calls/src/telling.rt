@@ -1,13 +1,14 @@
-//! What the client is told of calls that are refused.
+//! What the client is told of calls that are refused, and what replies tell of flights.
 ghost use Rattle.std.specs.Prelude.{◌≡◌, ◌<◌, ◌≤◌, ◌+◌, ◌++◌, ℕ, length};
 ghost use Rattle.seq_model.specs.Told.{source_of, status_at};
 ghost use Rattle.seq_model.specs.declared.calls.Entry.TheVariants.{Called};
+ghost use Rattle.answered_calls.specs.Tells.{with_given};
 
-use dev_types::{Client, Handle};
+use dev_types::{Client, Handle, Refused};
 use seq_model::{Call, Reply};
 
 /// The object that a call is made on, and 0 where there is none.
-fn source_of(call: &Call) -> Handle
+pub fn source_of(call: &Call) -> Handle
     ensures { result ≡ source_of call.now }
 {
     match call {
@@ -46,5 +47,19 @@ pub fn tell_status<C: Client>(client: &mut C, call: &Call, reply: &Reply)
         if let Some(status) = refused.status(source_of(call)) {
             client.status(status);
         }
+    }
+}
+
+/// A reply that tells of a flight, with as many of its tiles given as were seen; any other as it is.
+pub fn with_given(reply: Reply, given: u64) -> Reply
+    ensures { result ≡ with_given given reply }
+{
+    match reply {
+        Reply::NotReady { of, .. } => Reply::NotReady { given, of },
+        Reply::Denied(Refused::InFlight { of, .. }) => Reply::Denied(Refused::InFlight {
+            given,
+            of,
+        }),
+        reply => reply,
     }
 }
