@@ -1,8 +1,9 @@
 //! Why a call is refused.
-ghost use Rattle.std.specs.Prelude.{◌≡◌, ◌∷◌, ◌++◌, [], IfOk, not};
+ghost use Rattle.std.specs.Prelude.{◌≡◌, ◌∷◌, ◌++◌, [], IfOk, IsOk, not, true};
 ghost use Rattle.std.specs.Bool.{then_some};
 ghost use Rattle.dev_types.specs.declared.data_types.DataType.TheVariants as ty;
 ghost use Rattle.dev_types.specs.declared.refusals.Refused.TheVariants.{NotMapped};
+ghost use Rattle.call_answers.specs.Plain.{needs_no_memory};
 ghost use Rattle.seq_model.specs.Refusals.{first_of, no_picture, own_of_type, phase_at, refusal, some_channel_mapped};
 
 use crate::asked::is_channel_out;
@@ -58,7 +59,8 @@ pub fn refusal<S: Standing>(
     alloc: Global,
     call: &Call,
 ) -> Result<Option<Refused>, NoMemory>
-    ensures { IfOk result (λ found. found ≡ refusal (S.past device.now) call.now) }
+    ensures found { IfOk result (λ found. found ≡ refusal (S.past device.now) call.now) }
+    ensures no_memory { needs_no_memory call.now ≡ true → IsOk result }
 {
     Ok(match call {
         Call::NewObject { ty, subtype } => refusal_of_kind(*ty, subtype),

@@ -1,7 +1,7 @@
 //! What calls are answered, but for those that show a picture.
-ghost use Rattle.std.specs.Prelude.{◌≡◌, IfOk, IsSome, Some};
+ghost use Rattle.std.specs.Prelude.{◌≡◌, IfOk, IsOk, IsSome, Some, true};
 ghost use Rattle.seq_model.specs.Answers.{answer, granted};
-ghost use Rattle.call_answers.specs.Plain.{IsPlain, ShowsNoPicture};
+ghost use Rattle.call_answers.specs.Plain.{IsPlain, ShowsNoPicture, needs_no_memory};
 ghost use Rattle.call_answers.specs.Telling.{IsReplyOf};
 
 use crate::answers::refusal;
@@ -48,7 +48,8 @@ fn refused_or_granted<S: Standing>(
 ) -> Result<Reply, NoMemory>
     requires plain { IsPlain call.now }
     requires answered { IsSome (answer (S.past device.now) call.now) }
-    ensures { IfOk result (λ reply. answer (S.past device.now) call.now ≡ Some reply) }
+    ensures answered { IfOk result (λ reply. answer (S.past device.now) call.now ≡ Some reply) }
+    ensures no_memory { needs_no_memory call.now ≡ true → IsOk result }
 {
     match refusal(device, alloc, call)? {
         Some(refused) => Ok(Reply::Denied(refused)),
@@ -61,7 +62,8 @@ fn refused_or_granted<S: Standing>(
 pub fn answer<S: Standing>(device: &S, alloc: Global, call: &Call) -> Result<Reply, NoMemory>
     requires pictureless { ShowsNoPicture call.now }
     requires answered { IsSome (answer (S.past device.now) call.now) }
-    ensures { IfOk result (λ reply. answer (S.past device.now) call.now ≡ Some reply) }
+    ensures answered { IfOk result (λ reply. answer (S.past device.now) call.now ≡ Some reply) }
+    ensures no_memory { needs_no_memory call.now ≡ true → IsOk result }
 {
     match call {
         Call::GetProperty { h, name } => replied(told_property(device, alloc, *h, name)),

@@ -1,5 +1,6 @@
 //! Calls on objects: each is refused or carried out, and the client is told of it.
-ghost use Rattle.std.specs.Prelude.{◌≡◌, [], ℕ, ◌+◌, ◌<◌, ◌≤◌, ◌^◌, ◌++◌, IfErr, IfOk, OnErr, OnOk, Some, length, true};
+ghost use Rattle.std.specs.Prelude.{◌≡◌, [], ℕ, ◌+◌, ◌<◌, ◌≤◌, ◌^◌, ◌++◌, IfErr, IfOk, IsOk, OnErr, OnOk, Some, length, true};
+ghost use Rattle.call_answers.specs.Plain.{needs_no_memory};
 ghost use Rattle.past_laws.specs.Open.{IsOpen};
 ghost use Rattle.seq_model.specs.Answers.{answer};
 ghost use Rattle.seq_model.specs.Contents.{entered};
@@ -29,6 +30,7 @@ impl ObjectStore {
     ///
     /// # Errors
     /// `NoMemory`, with the call and the loan as they were; all is then as it was, but for the room.
+    /// Retain and release never answer it where the client has a place for a status.
     pub fn apply<C: Client, R: Records>(
         &mut self,
         alloc: Global,
@@ -66,6 +68,10 @@ impl ObjectStore {
           stored = record self.old.stored { ready = self.new.stored.ready };
         }) }
         ensures quiet { OnErr result (C.notices client.new ≡ C.notices client.old) }
+        ensures no_memory { needs_no_memory call ≡ true
+            → tellable self.old.stored.state + 1 < 2 ^ 32
+            → tellable self.old.stored.state < C.spare client.old
+            → IsOk result }
         ensures spare { tellable self.new.stored.state ≤ C.spare client.new }
         ensures room { C.spare client.old + length (C.notices client.old)
             ≤ C.spare client.new + length (C.notices client.new) }
@@ -103,6 +109,10 @@ impl ObjectStore {
         } }
         ensures quiet { C.notices client.new ≡ C.notices client.old }
         ensures no_less { C.spare client.old ≤ C.spare client.new }
+        ensures no_memory { needs_no_memory call.now ≡ true
+            → tellable self.old.stored.state + 1 < 2 ^ 32
+            → tellable self.old.stored.state < C.spare client.old
+            → IsOk result }
     {
         let notices = u32::try_from(self.tellable())
             .ok()
@@ -123,6 +133,7 @@ impl ObjectStore {
         ensures same { self.new ≡ record self.old {
           stored = record self.old.stored { ready = self.new.stored.ready };
         } }
+        ensures no_memory { needs_no_memory call.now ≡ true → IsOk result }
     {
         match call {
             Call::NewObject { .. } | Call::NewArray { .. } | Call::UnmapParameterArray { .. } => {

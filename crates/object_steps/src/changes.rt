@@ -1,7 +1,8 @@
 //! What a call that was answered does to the objects and to their counts.
-ghost use Rattle.std.specs.Prelude.{◌≡◌, ◌+◌, ◌*◌, ◌^◌, ◌≤◌, IfErr, IfOk, IsSome, IsTrue, MatchOption, MatchResult, Ok, Err, OnErr, OnOk, false, length, true};
+ghost use Rattle.std.specs.Prelude.{◌≡◌, ◌+◌, ◌*◌, ◌^◌, ◌≤◌, IfErr, IfOk, IsOk, IsSome, IsTrue, MatchOption, MatchResult, Ok, Err, OnErr, OnOk, false, length, true};
 ghost use Rattle.std.specs.Option.{option_and_then};
 ghost use Rattle.array_objects.specs.Stores.{Fits};
+ghost use Rattle.call_answers.specs.Plain.{needs_no_memory};
 ghost use Rattle.dev_types.specs.DataTypes.{byte_size, is_element_type};
 ghost use Rattle.object_store.specs.Parts.{array_of, named_with};
 ghost use Rattle.past_laws.specs.Suits.{IsLoanOf, taken_array};
@@ -44,6 +45,7 @@ pub fn carry_out(
     ensures handed { IfOk result (λ l. l ≡ handed place call.now reply.now store.old.state loan) }
     ensures returned { IfErr result (λ e. e.1 ≡ loan) }
     ensures err { OnErr result (store.new ≡ store.old) }
+    ensures no_memory { needs_no_memory call.now ≡ true → IsOk result }
 {
     match reply {
         Reply::Denied(_) => Ok(loan),
@@ -82,6 +84,7 @@ fn create(store: &mut Store, alloc: Global, call: &Call) -> Result<ArrayLoan, No
     ensures ok { OnOk result (store.new ≡ carried 0 call.now (reply.Made 0) store.old) }
     ensures nothing { IfOk result (λ l. l ≡ loans.Nothing) }
     ensures err { OnErr result (store.new ≡ store.old) }
+    ensures no_memory { needs_no_memory call.now ≡ true → IsOk result }
 {
     match call {
         Call::NewObject { ty, subtype } => {
@@ -232,6 +235,7 @@ fn lend(store: &mut Store, alloc: Global, place: u64, call: &Call) -> Result<Arr
     ensures handed { IfOk result (λ l. l ≡ handed place call.now (reply.Lent place) store.old.state
         loans.Nothing) }
     ensures err { OnErr result (store.new ≡ store.old) }
+    ensures no_memory { needs_no_memory call.now ≡ true → IsOk result }
 {
     match call {
         Call::MapArray { h } => match store.map_array(alloc, *h, place) {
@@ -307,6 +311,7 @@ fn finish(
     ensures nothing { IfOk result (λ l. l ≡ loans.Nothing) }
     ensures returned { IfErr result (λ e. e.1 ≡ loan) }
     ensures err { OnErr result (store.new ≡ store.old) }
+    ensures no_memory { needs_no_memory call.now ≡ true → IsOk result }
 {
     match (call, loan) {
         (Call::UnmapArray { bytes, .. }, ArrayLoan::Lent(lent)) => {
@@ -351,6 +356,7 @@ fn change(store: &mut Store, alloc: Global, call: &Call) -> Result<ArrayLoan, No
     ensures ok { OnOk result (store.new ≡ carried 0 call.now reply.Done store.old) }
     ensures nothing { IfOk result (λ l. l ≡ loans.Nothing) }
     ensures err { OnErr result (store.new ≡ store.old) }
+    ensures no_memory { needs_no_memory call.now ≡ true → IsOk result }
 {
     match call {
         Call::Retain { h } => store.retain(*h),

@@ -1,7 +1,7 @@
 //! What a call is answered, and how it is entered, before anything changes.
-ghost use Rattle.std.specs.Prelude.{◌≡◌, IfOk, None, Some};
+ghost use Rattle.std.specs.Prelude.{◌≡◌, IfOk, IsOk, None, Ok, Some, true};
 ghost use Rattle.std.specs.Option.{unwrap_or};
-ghost use Rattle.call_answers.specs.Plain.{ShowsNoPicture};
+ghost use Rattle.call_answers.specs.Plain.{ShowsNoPicture, needs_no_memory};
 ghost use Rattle.past_laws.specs.Open.{IsOpen};
 ghost use Rattle.seq_model.specs.Answers.{answer};
 ghost use Rattle.seq_model.specs.Contents.{entered};
@@ -41,6 +41,7 @@ pub fn decide<R: Records>(
         records.now)) call.now) }
     ensures answered { IfOk result (λ d. answer (after (R.history records.now)) (unwrap_or d.cleaned
         call.now) ≡ Some d.reply) }
+    ensures no_memory { needs_no_memory call.now ≡ true → IsOk result }
 {
     let device = AtRest::new(store, records);
     device.is_legal();
@@ -52,7 +53,9 @@ pub fn decide<R: Records>(
 /// The call as it is entered, if it brings something back; the call that was made stays.
 #[tactic(auto, unfolding(seq_model::specs::Contents::entered))]
 fn cleaned<S: Standing>(device: &S, alloc: Global, call: &Call) -> Result<Option<Call>, NoMemory>
-    ensures { IfOk result (λ made. unwrap_or made call.now ≡ entered (S.past device.now) call.now) }
+    ensures made { IfOk result (λ made. unwrap_or made call.now
+        ≡ entered (S.past device.now) call.now) }
+    ensures no_memory { needs_no_memory call.now ≡ true → (result ≡ Ok None) }
 {
     let brought = match call {
         Call::UnmapArray { h, number, bytes } => Call::UnmapArray {

@@ -1,10 +1,11 @@
 //! The objects of a device, with room for the ends of all of them.
-ghost use Rattle.std.specs.Prelude.{◌≡◌, ◌+◌, ◌-◌, ◌++◌, ◌<◌, ◌≤◌, ◌^◌, [], IfErr, IfOk, IsSome, OnErr, OnOk, length, true, vec_capacity};
+ghost use Rattle.std.specs.Prelude.{◌≡◌, ◌+◌, ◌-◌, ◌++◌, ◌<◌, ◌≤◌, ◌^◌, [], IfErr, IfOk, IsOk, IsSome, OnErr, OnOk, length, true, vec_capacity};
 ghost use Rattle.std.specs.BTreeMap.{is_at};
 ghost use Rattle.std.specs.List.{filter_map};
 ghost use Rattle.std.specs.Map.{keys_of, set_value};
 ghost use Rattle.std.specs.Option.{is_some};
 ghost use Rattle.std.specs.Ordering.{nat_cmp};
+ghost use Rattle.call_answers.specs.Plain.{needs_no_memory};
 ghost use Rattle.object_store.specs.Ends.{ended, notice_of};
 ghost use Rattle.object_store.specs.Gathers.{IsLeft, buried};
 ghost use Rattle.object_store.specs.Kept.{number_at};
@@ -139,6 +140,7 @@ impl ObjectStore {
             self.old.stored.state loan) }
         ensures returned { IfErr result (λ e. e.1 ≡ loan) }
         ensures err { OnErr result (self.new ≡ self.old) }
+        ensures no_memory { needs_no_memory call.now ≡ true → IsOk result }
     {
         let out = match carry_out(&mut self.store, alloc, place, call, reply, loan) {
             Ok(out) => out,

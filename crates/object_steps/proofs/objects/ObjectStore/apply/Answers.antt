@@ -1,8 +1,13 @@
-use Rattle.std.proofs.Common.{◌≡◌, ◌≤◌, ◌+◌, ◌∙◌, ap, arith, length, rules, subst, sym}
+use Rattle.std.proofs.Common.{◌≡◌, ◌≤◌, ◌+◌, ◌∙◌, false, true, ap, arith, length, rules, subst, sym}
+use Rattle.std.specs.Prelude.{IsOk}
+use Rattle.call_answers.specs.Plain.{needs_no_memory}
 use Rattle.object_store.specs.Kept.{CountsItsObjects, Stored}
 use Rattle.seq_model.specs.Answers.{answer}
-use Rattle.seq_model.specs.Steps.{after}
+use Rattle.seq_model.specs.Contents.{entered}
+use Rattle.seq_model.specs.Steps.{Past, after}
 use Rattle.seq_model.specs.Told.{status_at}
+use Rattle.seq_model.specs.declared.calls.Call.{Call}
+use Rattle.seq_model.specs.declared.calls.Call.TheVariants.{UnmapArray, UnmapParameterArray}
 use Rattle.seq_model.specs.declared.calls.Entry.TheVariants.{Called}
 use Rattle.object_steps.specs.Applying.{with_call}
 use Rattle.object_steps.specs.Carrying.{carried}
@@ -10,6 +15,13 @@ use Rattle.object_steps.specs.Objects.{Objects, tellable}
 use Rattle.object_steps.specs.Resting.{Follows, IsAtRest}
 use Rattle.object_steps.proofs.Applied.{can_be_carried, entry_of_objects, few_told, leads_on, loan_comes_back, tells_of_none, rests_with_room, shows_no_picture, stays_open, stepped, waits_for_none}
 use Rattle.object_steps.proofs.objects.ObjectStore.apply.Goals as goal
+
+-- a call that needs no memory is entered as it was made
+needs_none : (past : Past) (call : Call) → needs_no_memory call ≡ true → needs_no_memory (entered past call) ≡ true
+unfolding entered
+needs_none past (UnmapArray h number bytes) is = absurd cc
+needs_none past (UnmapParameterArray h name number bytes) is = absurd cc
+needs_none past call is = is
 
 pub carry_out-requires-clause-can : goal.carry_out-requires-clause-can
 carry_out-requires-clause-can g c =
@@ -60,3 +72,9 @@ returns-clause-step g c = λ actor.
 pub returns-clause-may_follow : goal.returns-clause-may_follow
 returns-clause-may_follow g c = λ actor.
     stays_open (g.R.Records.history c.args.records.now) actor c.unwrap_or.result c.in-Ok-decide.decided.reply c.requires.may_follow
+
+pub returns-in-Err-clause-no_memory : goal.returns-in-Err-clause-no_memory
+returns-in-Err-clause-no_memory g c = λ needs few room.
+    let entry : needs_no_memory c.entry_of-entry.result.now ≡ true =
+    ap needs_no_memory (c.entry_of-entry.ensures ∙ c.in-Ok-decide.ensures.entered) ∙ needs_none (after (g.R.Records.history c.args.records.now)) c.args.call needs in
+    let wrong : false ≡ true = subst IsOk c.in-Err.is (c.carry_out.ensures.no_memory entry) in absurd cc
