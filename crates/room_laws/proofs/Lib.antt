@@ -1,0 +1,2 @@
+pub mod FlightFacts
+pub mod LoanFacts
