@@ -40,11 +40,12 @@ use Rattle.device_laws.proofs.CallFacts.{call_kept}
 use Rattle.device_laws.proofs.FlyFacts.{call_flown}
 use Rattle.device_laws.proofs.FramesStandFacts.{fewer_kept}
 use Rattle.world_snapshot.specs.Worlds.{World}
-use Rattle.device_core.specs.AllParts.{AreParts, Inside, IsLoaded, shown_by}
+use Rattle.device_core.specs.AllParts.{AreAboard, AreParts, Inside, IsLoaded, shown_by}
 use Rattle.device_core.specs.Calls.{HasEntered, touched_by}
 use Rattle.device_core.specs.Deaths.{all_but_those, unless_dead}
 use Rattle.device_core.specs.Standing.{IsStanding}
 use Rattle.device_core.specs.declared.loads.Load.{Load}
+use Rattle.device_core.proofs.AboardFacts.{aboard_count, same_aboard}
 use Rattle.device_core.proofs.EntryFacts.{all_loaded, leaves, parts_after, same_builds}
 
 in_itself : (h k : ℕ) → k ≡ h → IsTrue (has k (h ∷ []))
@@ -103,7 +104,7 @@ module _ (old new : Inside) (actor : ℕ) (call : Call) (r : Reply) (moved : Sto
     (departed : new.objects.departed ≡ keys_of (gone moved.state new.objects.stored.state))
     (grown : new.history ≡ old.history ++ Called actor call r ∷ [])
     (flown : Flown (old.history ++ Called actor call r ∷ []) (runs_of new.flights.future.flights))
-    (count : length new.flights.future.flights ≡ length old.flights.future.flights) (cargo : new.flights.cargo ≡ old.flights.cargo)
+    (aboard : AreAboard new.flights.future.flights old.flights.cargo) (cargo : new.flights.cargo ≡ old.flights.cargo)
     (over : new.flights.over ≡ old.flights.over)
     (touched : AreKept (is_there old.history) (old.history ++ Called actor call r ∷ []) (reach_at mid))
     (shows : AreShown old.history (shown_at shown_by mid))
@@ -119,10 +120,14 @@ module _ (old new : Inside) (actor : ℕ) (call : Call) (r : Reply) (moved : Sto
   pub called_parts : IsStanding old → length old.history + length old.flights.future.flights + 1 < old.room → AreParts new
   called_parts stands place = parts_after old new (Called actor call r) moved mid p no_close follows counted_moved counted is_left is_buried departed grown flown
       (subst (AllByRecursion (IsLoaded (old.history ++ Called actor call r ∷ []))) (sym cargo) (all_loaded old.history (Called actor call r) old.flights.cargo p.loaded))
+      (subst (AreAboard new.flights.future.flights) (sym cargo) aboard)
       (subst (AllOver (old.history ++ Called actor call r ∷ [])) (sym over) (others_over old.history (Called actor call r) old.flights.over follows.legal refl p.over))
       (called_lets old.history actor call r stands.frames.open_) touched shows forgotten known
       (same ∙ p.built ∙ sym (same_builds old.history (Called actor call r) quiet))
-      (let longer = ap length grown ∙ length-append old.history (Called actor call r ∷ []) in omega (arith, place, longer, count, room))
+      (let longer = ap length grown ∙ length-append old.history (Called actor call r ∷ []) in
+      let count = aboard_count new.flights.future.flights old.flights.cargo aboard in
+      let was = aboard_count old.flights.future.flights old.flights.cargo p.aboard in
+      omega (arith, place, longer, count, was, room))
 
   pub called_enters : filter_map notice_of new.objects.dead ≡ filter_map end_of_object (gone moved.state new.objects.stored.state) → HasEntered actor call r old new
   called_enters notices = record {
@@ -145,8 +150,8 @@ module _ (old : Inside) (actor : ℕ) (call : Call) (r : Reply) (p : AreParts ol
   moved_flown new legal flights = subst (λ (b : Books Load). Flown (old.history ++ Called actor call r ∷ []) (runs_of b.future.flights)) (sym flights)
       (call_flown old.history (Called actor call r) old.flights.future new.objects.departed legal (no_flight_moves actor call r objects) p.flown)
 
-  pub moved_count : (new : Inside) → new.flights ≡ with_future old.flights (without_pictures old.flights.future new.objects.departed) → length new.flights.future.flights ≡ length old.flights.future.flights
-  moved_count new flights = ap (λ (b : Books Load). length b.future.flights) flights ∙ ap length (fewer_kept old.flights.future new.objects.departed).0
+  pub moved_aboard : (new : Inside) → new.flights ≡ with_future old.flights (without_pictures old.flights.future new.objects.departed) → AreAboard new.flights.future.flights old.flights.cargo
+  moved_aboard new flights = same_aboard old p new.flights.future.flights (ap (λ (b : Books Load). b.future.flights) flights ∙ (fewer_kept old.flights.future new.objects.departed).0)
 
   pub moved_stands : (new : Inside) → new.history ≡ old.history ++ Called actor call r ∷ [] → new.flights ≡ with_future old.flights (without_pictures old.flights.future new.objects.departed)
       → LeavesBut old.history (Called actor call r) new.objects.departed → AreTold (old.history ++ Called actor call r ∷ []) old.flights.future.flights → IsStanding old → IsStanding new

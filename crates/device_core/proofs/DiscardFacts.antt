@@ -3,7 +3,6 @@ use Rattle.std.proofs.Common.{◌≡◌, ◌∙◌, ℕ, ◌+◌, List, [], ◌�
 use Rattle.std.specs.List.{filter_map}
 use Rattle.std.specs.Map.{keys_of}
 use Rattle.std.specs.Option.{option_map_or}
-use Rattle.std.proofs.lemmas.List.{length-map}
 use Rattle.frame_future.specs.Future.{Future, IsDiscarded, IsKept, flight_of}
 use Rattle.object_store.specs.Kept.{Stored}
 use Rattle.object_steps.specs.Objects.{tellable}
@@ -20,16 +19,16 @@ use Rattle.seq_model.specs.declared.calls.Entry.TheVariants.{Called}
 use Rattle.seq_model.specs.declared.calls.Reply.TheVariants as reply
 use Rattle.seq_model.proofs.Came.{stop_objects}
 use Rattle.seq_model.proofs.Changes.{keys_of_changed}
-use Rattle.device_laws.specs.Flown.{Flown, run_of, runs_of, stopped_run}
+use Rattle.device_laws.specs.Flown.{Flown, runs_of}
 use Rattle.device_laws.specs.FramesStand.{FramesStand, LeavesBut, without_pictures}
 use Rattle.device_laws.proofs.CallFacts.{discard_kept}
 use Rattle.device_laws.proofs.FlyFacts.{discard_flown}
 use Rattle.device_laws.proofs.FramesStandFacts.{fewer_kept}
-use Rattle.device_laws.proofs.FutureFacts.{discarded_runs}
 use Rattle.device_laws.specs.Replies.{AreTold}
 use Rattle.device_laws.proofs.ReplyFacts.{discarded_told, quiet_told}
-use Rattle.device_core.specs.AllParts.{AreParts, Inside}
+use Rattle.device_core.specs.AllParts.{AreAboard, AreParts, Inside}
 use Rattle.device_core.specs.Standing.{IsStanding}
+use Rattle.device_core.proofs.AboardFacts.{aboard_discarded}
 use Rattle.device_core.proofs.KeptFacts.{there_as}
 
 -- a discard leaves which objects there are, and of whose ends the client is to be told
@@ -42,11 +41,6 @@ same_keys h s = ap (λ (es : List (ℕ × Object)). keys_of es) (objects_are h s
 
 same_tellable : (h : ℕ) (s : State) → tellable (discard h s) ≡ tellable s
 same_tellable h s = ap (λ (es : List (ℕ × Object)). length (filter_map end_of_object es)) (objects_are h s) ∙ plain_tellable h (set_phase Empty) s (λ o. refl)
-
--- and a discard of kept frames how many flights there are
-same_count : (h : ℕ) (old new : Future) → IsKept old → IsDiscarded h old new (flight_of old h) → length new.flights ≡ length old.flights
-same_count h old new kept discarded =
-    sym (length-map new.flights run_of) ∙ ap length (discarded_runs h old new kept discarded).0 ∙ length-map (runs_of old.flights) (stopped_run h) ∙ length-map old.flights run_of
 
 module _ (old : Inside) (actor h room : ℕ) (p : AreParts old) (legal : Legal (old.history ++ Called actor (DiscardFrame h) reply.Done ∷ [])) where
   abbrev pub entry : Entry
@@ -76,8 +70,9 @@ module _ (old : Inside) (actor h room : ℕ) (p : AreParts old) (legal : Legal (
     discard_flies = subst (λ (s : Future). Flown (old.history ++ entry ∷ []) (runs_of s.flights)) (sym flights)
         (discard_flown old.history actor h old.flights.future mid new.objects.departed legal kept discarded p.flown)
 
-    pub discard_count : length new.flights.future.flights ≡ length old.flights.future.flights
-    discard_count = ap (λ (s : Future). length s.flights) flights ∙ ap length (fewer_kept mid new.objects.departed).0 ∙ same_count h old.flights.future mid kept discarded
+    pub discard_aboard : AreAboard new.flights.future.flights old.flights.cargo
+    discard_aboard = subst (λ fs. AreAboard fs old.flights.cargo) (sym (ap (λ (s : Future). s.flights) flights ∙ (fewer_kept mid new.objects.departed).0))
+        (aboard_discarded h old.flights.future mid old.flights.cargo discarded p.aboard)
 
     pub discard_stands : LeavesBut old.history entry new.objects.departed → IsStanding old → IsStanding new
     discard_stands left stands = record {

@@ -1,10 +1,13 @@
 -- What always holds of the parts of a device holds once one entry more was made, and what nothing holds any more is gone.
 use Rattle.std.proofs.Common.{◌≡◌, ◌∙◌, ℕ, ◌+◌, ◌<◌, ◌≤◌, ◌&&◌, Bool, true, false, not, cond, List, [], ◌∷◌, ◌++◌, Option, Some, None, length, length-append, refl, sym, ap, subst, arith}
+use Rattle.std.specs.Prelude.{IfSome}
 use Rattle.std.specs.List.{AllByRecursion}
 use Rattle.std.specs.Map.{keys_of}
 use Rattle.std.specs.Option.{MatchOption, is_some, option_and_then, option_map, option_map_or, unwrap_or}
 use Rattle.flight_books.specs.Kept.{is_of, without}
 use Rattle.flight_books.specs.declared.kept.Cargo.{Cargo}
+use Rattle.fx_math.specs.declared.scene.Scene.{Scene}
+use Rattle.picture_model.specs.Limits.{IsSceneWithin}
 use Rattle.object_store.specs.Kept.{CountsItsObjects, Stored}
 use Rattle.object_store.specs.Gathers.{IsLeft, buried}
 use Rattle.object_store.proofs.DeadSteps.{has_key}
@@ -13,6 +16,7 @@ use Rattle.object_steps.proofs.Rested.{rests}
 use Rattle.seq_model.specs.Histories.{History, rendered}
 use Rattle.seq_model.specs.Builds.{builds}
 use Rattle.seq_model.specs.Life.{has}
+use Rattle.seq_model.specs.Pictures.{scene_at}
 use Rattle.seq_model.specs.State.{Object, State, object_at, scene_objects}
 use Rattle.seq_model.specs.Steps.{Past, after, change, is_reached_by, next_place}
 use Rattle.seq_model.specs.Told.{gone}
@@ -35,7 +39,7 @@ use Rattle.kept_worlds.specs.KeptMaps.{Kept, Worlds, kept_at, reach_at, shown_at
 use Rattle.kept_worlds.specs.LastKept.{AreKept, AreShown, is_there, kept_by}
 use Rattle.world_laws.specs.Alike.{shown_of}
 use Rattle.world_snapshot.specs.Worlds.{World}
-use Rattle.device_core.specs.AllParts.{AreParts, Inside, IsLoaded, shown_by}
+use Rattle.device_core.specs.AllParts.{AreAboard, AreParts, Inside, IsLoaded, scene_of_load, shown_by}
 use Rattle.device_core.specs.Deaths.{all_but_those, unless_dead}
 use Rattle.device_core.specs.declared.loads.Load.{Load}
 use Rattle.device_core.proofs.KeptFacts.{but_those, left_of}
@@ -54,9 +58,16 @@ pub loaded_later : (history : History) (e : Entry) (c : Cargo Load) → IsLoaded
 loaded_later history e c l = record {
   early = let longer = length-append history (e ∷ []) in let was = l.early in omega (arith, was, longer);
   reach = λ h. l.reach h ∙ ap (λ r. cond r 1 0) (sym (reached_early history e c.ticket h l.early));
-  scene = l.scene ∙ sym (scene_early history (e ∷ []) c.ticket l.early);
-  within = l.within;
+  scene = by (scene_of_load c.kept) l.scene;
+  within = subst IsSceneWithin (sym stays) l.within;
 }
+  where
+    stays : scene_at (history ++ e ∷ []) c.ticket ≡ scene_at history c.ticket
+    stays = scene_early history (e ∷ []) c.ticket l.early
+
+    by : (o : Option Scene) → IfSome o (λ s. s ≡ scene_at history c.ticket) → IfSome o (λ s. s ≡ scene_at (history ++ e ∷ []) c.ticket)
+    by None is = tt
+    by (Some s) is = is ∙ sym stays
 
 every : (P Q : Cargo Load → Type 0) → ((c : Cargo Load) → P c → Q c) → (cs : List (Cargo Load)) → AllByRecursion P cs → AllByRecursion Q cs
 every P Q later [] all = tt
@@ -120,6 +131,7 @@ module _ (old new : Inside) (e : Entry) (moved : Stored) (mid : Worlds World) (p
     (grown : new.history ≡ old.history ++ e ∷ [])
     (flown : Flown (old.history ++ e ∷ []) (runs_of new.flights.future.flights))
     (loaded : AllByRecursion (IsLoaded (old.history ++ e ∷ [])) new.flights.cargo)
+    (aboard : AreAboard new.flights.future.flights new.flights.cargo)
     (over : AllOver (old.history ++ e ∷ []) new.flights.over)
     (lets : LetsNotes (old.history ++ e ∷ []))
     (touched : AreKept (is_there old.history) (old.history ++ e ∷ []) (reach_at mid))
@@ -181,6 +193,7 @@ module _ (old new : Inside) (e : Entry) (moved : Stored) (mid : Worlds World) (p
         (rests_after old.history e moved new.objects.stored new.objects.departed going follows counted_moved counted is_left is_buried departed);
     flown = subst (λ h. Flown h (runs_of new.flights.future.flights)) (sym grown) flown;
     loaded = subst (λ h. AllByRecursion (IsLoaded h) new.flights.cargo) (sym grown) loaded;
+    aboard = aboard;
     lets = subst LetsNotes (sym grown) lets;
     kept = subst (λ h. AreKept (is_there h) h (reach_at new.worlds)) (sym grown) kept_after;
     shown = subst (λ h. AreShown h (shown_at shown_by new.worlds)) (sym grown)

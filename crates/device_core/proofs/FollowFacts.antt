@@ -7,12 +7,12 @@ use Rattle.object_store.specs.Parts.{at}
 use Rattle.object_store.proofs.Keyed.{at_keyed}
 use Rattle.object_steps.specs.Resting.{Follows, IsAtRest, KeepsReferences, reaches}
 use Rattle.object_steps.proofs.ReachLaws.{reaches_of_a_finish, reaches_of_a_leave, references_stay}
+use Rattle.flight_books.specs.Sweeps.{note}
 use Rattle.seq_model.specs.Histories.{History}
 use Rattle.seq_model.specs.Legal.{Legal}
 use Rattle.seq_model.specs.State.{Done, Empty, Object, Phase, State, is_in_flight, object_at}
 use Rattle.seq_model.specs.Steps.{after, change, end_flight, end_flights, is_reached_by, next_place, set_phase, step}
 use Rattle.device_core.specs.Holds.{held_less}
-use Rattle.device_core.specs.Notes.{note}
 use Rattle.device_core.proofs.HoldFacts.{held_less_is}
 
 -- whether a flight reached an object, as a number

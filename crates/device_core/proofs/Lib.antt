@@ -1,4 +1,5 @@
 -- Lemmas of this crate.
+pub mod AboardFacts
 pub mod BeginFacts
 pub mod CalledFacts
 pub mod DiscardFacts
@@ -7,14 +8,20 @@ pub mod EntryFacts
 pub mod FollowFacts
 pub mod HoldFacts
 pub mod KeptFacts
+pub mod LookedFacts
+pub mod MapFacts
+pub mod LendFacts
 pub mod MoveFacts
 pub mod NotedFacts
 pub mod OnceFacts
 pub mod RecordFacts
 pub mod RenderSteps
 pub mod RenderedFacts
+pub mod RoomFacts
 pub mod SeenFacts
 pub mod ShownFacts
 pub mod SweepFacts
 pub mod TellFacts
+pub mod UndoFacts
 pub mod UnmapFacts
+pub mod WorkFacts

@@ -6,6 +6,7 @@ use Rattle.std.specs.Option.{option_and_then, option_map_or, unwrap_or}
 use Rattle.std.proofs.Common.{length, length-append, ◌≤◌}
 use Rattle.dev_types.specs.Counting.{times}
 use Rattle.flight_books.specs.Kept.{AreBooks, cargo_at, is_of, without}
+use Rattle.flight_books.specs.Sweeps.{note}
 use Rattle.flight_books.proofs.SweepLaws.{fewer}
 use Rattle.flight_books.specs.declared.kept.Cargo.{Cargo}
 use Rattle.flight_books.proofs.CargoLaws.{apart}
@@ -28,7 +29,7 @@ use Rattle.past_laws.specs.Worlds.{world_of}
 use Rattle.device_laws.specs.Flown.{Flown, IsNoted, IsRun, LetsNotes, Run, note_of_run, runs_of, tickets_in}
 use Rattle.device_laws.proofs.SweepFacts.{one_noted, tickets_of_runs}
 use Rattle.device_laws.proofs.StandingFacts.{found}
-use Rattle.device_core.specs.AllParts.{AreParts, Inside, IsLoaded}
+use Rattle.device_core.specs.AllParts.{AreAboard, AreParts, Inside, IsLoaded}
 use Rattle.device_laws.specs.Over.{AllOver}
 use Rattle.device_laws.specs.FramesStand.{FramesStand, without_pictures}
 use Rattle.device_laws.specs.Replies.{AreTold}
@@ -36,10 +37,10 @@ use Rattle.device_laws.proofs.FramesStandFacts.{fewer_kept}
 use Rattle.device_laws.proofs.NoteFacts.{note_kept}
 use Rattle.device_laws.proofs.ReplyFacts.{quiet_told, seen_told}
 use Rattle.device_core.specs.Standing.{IsStanding}
+use Rattle.device_core.proofs.AboardFacts.{aboard_some}
 use Rattle.device_core.proofs.EntryFacts.{leaves, others_loaded, parts_after, same_builds}
 use Rattle.kept_worlds.proofs.LastFacts.{stay_known}
 use Rattle.device_core.specs.declared.loads.Load.{Load}
-use Rattle.device_core.specs.Notes.{note}
 use Rattle.device_core.proofs.FollowFacts.{noted_follows, once, was_held}
 use Rattle.device_core.specs.Ends.{IsOwn}
 use Rattle.device_laws.proofs.FlownFacts.{middle, own_flight}
@@ -102,12 +103,14 @@ pub record IsEnding (old : Inside) (e : Ended) (c : Cargo Load) (left : List Fly
   pub over : IsOver old.flights left e c
   pub there : cargo_at old.flights.cargo e.ticket ≡ Some c
   pub fewer : length left + 1 ≡ length old.flights.future.flights
+  pub aboard : AreAboard left (without e.ticket old.flights.cargo)
 
 pub ending : (old : Inside) (last : ℕ) (frames looked : Future) (e : Ended) (c : Cargo Load) → AreParts old → frames ≡ old.flights.future → Rising (map (λ f. f.ticket) frames.flights) → AreBooks old.flights
     → AreSeen last old.flights.future looked (Some e) → cargo_at old.flights.cargo e.ticket ≡ Some c → IsEnding old e c looked.flights
 ending old last frames looked e c parts is rising books seen there = record {
   parts = parts;
   rising = subst (λ (s : Future). Rising (map (λ f. f.ticket) s.flights)) is rising;
+  aboard = aboard_some last old.flights looked (subst (λ (s : Future). Rising (map (λ f. f.ticket) s.flights)) is rising) books parts.aboard e seen;
   over = one_seen last old.flights looked e c books seen there;
   there = there;
   fewer = fewer last old.flights.future looked e seen;
@@ -176,6 +179,7 @@ module _ (old new : Inside) (e : Ended) (c : Cargo Load) (left : List Flying) (x
       (subst (λ fs. Flown (old.history ++ note e.left e.ticket ∷ []) (runs_of fs)) (sym flights) ends.flown)
       (subst (AllByRecursion (IsLoaded (old.history ++ note e.left e.ticket ∷ []))) (sym cargo)
       (others_loaded old.history (note e.left e.ticket) e.ticket old.flights.cargo x.parts.loaded))
+      (subst (λ fs. AreAboard fs new.flights.cargo) (sym flights) (subst (AreAboard left) (sym cargo) x.aboard))
       all_over ends.lets
       (stay_known old.history (note e.left e.ticket) (is_there old.history) (reach_at old.worlds) (ap (option_and_then (world_of (after old.history).state)) (quiet e.left e.ticket))
       (untouched e.left e.ticket) x.parts.kept)

@@ -1,48 +1,34 @@
 -- What is recorded of frames beside the objects.
-use Rattle.std.proofs.Common.{◌≡◌, ◌∙◌, ℕ, Bool, List, [], ◌∷◌, Option, Some, None, refl, sym, ap, subst}
+use Rattle.std.proofs.Common.{◌≡◌, ◌==◌, ◌∙◌, ℕ, Bool, List, [], ◌∷◌, Option, Some, None, refl, sym, ap, subst}
 use Rattle.std.specs.Prelude.{IfSome, IsSome, slice_index_or, false}
 use Rattle.fx_math.specs.declared.scene.Scene.{Scene}
 use Rattle.picture_model.specs.Tiles.{tile_count}
 use Rattle.std.specs.List.{slice_get}
-use Rattle.std.specs.Option.{IsSomeAnd, option_and_then, option_map_or, unwrap_or}
+use Rattle.std.specs.Option.{is_some, option_map_or, unwrap_or}
 use Rattle.std.proofs.lemmas.Option.{unwrap_or-slice_get}
 use Rattle.dev_types.specs.Channels.{number_of_channel}
 use Rattle.dev_types.specs.declared.handles.Channel.{Channel}
-use Rattle.flight_books.specs.Kept.{AreBooks, IsBooked, cargo_at, cargo_of, is_of}
-use Rattle.flight_books.specs.declared.kept.Cargo.{Cargo}
-use Rattle.flight_books.proofs.PairLaws.{frame_booked}
+use Rattle.frame_future.proofs.Finds.{not_second, phase_flight}
 use Rattle.frame_future.specs.Channels.{is_asked}
-use Rattle.frame_future.specs.Flights.{Flying}
-use Rattle.frame_future.specs.Future.{Finished, IsKept, asked_by, flight_of, is_picture_of, phase_by, shown_by}
+use Rattle.frame_future.specs.Flights.{Flying, awaited, is_stopped, key_at}
+use Rattle.frame_future.specs.Future.{Finished, Future, IsKept, asked_by, flight_at, flight_of, is_flight_of, is_picture_of, phase_by, phase_of, shown_by}
+use Rattle.frame_future.specs.declared.phase.Phase.{Phase}
+use Rattle.frame_future.specs.declared.phase.Phase.TheVariants as phase
 use Rattle.seq_model.specs.Pictures.{has_channel, tiles_at}
 use Rattle.seq_model.specs.Refusals.{phase_at}
 use Rattle.seq_model.specs.State.{Done, Flight}
 use Rattle.seq_model.specs.Steps.{after}
+use Rattle.tile_claims.specs.Parts.{tiles_of}
 use Rattle.device_laws.specs.Renders.{ShowsRender}
 use Rattle.device_laws.specs.Standing.{phase_as}
 use Rattle.device_laws.proofs.StandingFacts.{found, phases_agree}
-use Rattle.device_core.specs.AllParts.{AreParts, Inside, IsLoaded}
+use Rattle.device_core.specs.AllParts.{AreParts, Inside}
 use Rattle.device_core.specs.Standing.{IsStanding}
-use Rattle.device_core.specs.declared.loads.Load.{Load}
+use Rattle.device_core.proofs.AboardFacts.{flight_found}
 
--- with the flight of a frame its load is kept
-pub record IsCargo (i : Inside) (frame : ℕ) (f : Flying) : Type 0 where
-  pub cargo : Cargo Load
-  pub there : cargo_of i.flights frame ≡ Some cargo
-  pub ticket : cargo.ticket ≡ f.ticket
-  pub loaded : IsLoaded i.history cargo
-
-pub frame_cargo : (i : Inside) (frame : ℕ) (f : Flying) → AreParts i → AreBooks i.flights → IsKept i.flights.future → flight_of i.flights.future frame ≡ Some f → IsCargo i frame f
-frame_cargo i frame f parts books kept flies = by (cargo_of i.flights frame) refl (frame_booked i.flights frame f books kept flies)
-  where
-    by : (o : Option (Cargo Load)) → cargo_of i.flights frame ≡ o → IsSomeAnd o (IsBooked f) → IsCargo i frame f
-    by None none booked = absurd booked
-    by (Some c) some booked = record {
-      cargo = c;
-      there = some;
-      ticket = booked.ticket;
-      loaded = (found (IsLoaded i.history) (is_of f.ticket) i.flights.cargo c parts.loaded (sym (ap (option_and_then (λ (g : Flying). cargo_at i.flights.cargo g.ticket)) flies) ∙ some)).0;
-    }
+abbrev ticket_of_phase : Phase → ℕ
+ticket_of_phase (phase.Flight t) = t
+ticket_of_phase p = 0
 
 -- a frame that is in flight by the history has its flight
 pub flies_as : (i : Inside) (h t : ℕ) → AreParts i → IsStanding i → phase_at (after i.history) h ≡ Flight t → (f : Flying) × (flight_of i.flights.future h ≡ Some f) × (f.ticket ≡ t)
@@ -74,21 +60,45 @@ asks_as i h t parts stands phase c = by (flight_of i.flights.future h) (shown_by
         ∙ shows.asked c ∙ ap (λ t. has_channel i.history t c) same
     by None None none shown is = absurd cc
 
--- what is kept with the flight of a frame has the tiles of its render
-pub cargo_here : (i : Inside) (frame : ℕ) (c : Cargo Load) → AreParts i → AreBooks i.flights → IsKept i.flights.future → IsSome (flight_of i.flights.future frame) → cargo_of i.flights frame ≡ Some c
-    → (f : Flying) × IsLoaded i.history c × ((tiles : ℕ) → tiles ≡ tile_count c.kept.view.size.0 c.kept.view.size.1 → IfSome (flight_of i.flights.future frame) (λ f. tiles ≡ tiles_at i.history f.ticket))
-unfolding tiles_at
-cargo_here i frame c parts books kept flies there = by (flight_of i.flights.future frame) refl flies
-  where
-    some_is : {a b : Cargo Load} → Some a ≡ Some b → a ≡ b
-    some_is {a} same = ap (λ o. unwrap_or o a) same
+-- a frame's flight waits for the tiles of its render
+going_waits : (o : Option ℕ) (n : ℕ) → is_some o ≡ false → unwrap_or o n ≡ n
+going_waits None n going = refl
+going_waits (Some m) n going = absurd cc
 
-    by : (o : Option Flying) → flight_of i.flights.future frame ≡ o → IsSome o
-        → (f : Flying) × IsLoaded i.history c × ((tiles : ℕ) → tiles ≡ tile_count c.kept.view.size.0 c.kept.view.size.1 → IfSome o (λ f. tiles ≡ tiles_at i.history f.ticket))
+pub flight_waits : (i : Inside) (frame : ℕ) (f : Flying) → IsStanding i → flight_of i.flights.future frame ≡ Some f → awaited f ≡ tiles_at i.history f.ticket
+unfolding tiles_at
+flight_waits i frame f stands is =
+    let here = found (λ (g : Flying). ShowsRender i.history g.ticket (key_at g) g.channels) (is_flight_of frame) i.flights.future.flights f stands.frames.shows.flights is in
+    let going : is_stopped f ≡ false = not_second (f.frame == frame) (is_stopped f) here.1 in
+    going_waits f.view.stop (tiles_of (key_at f)) going ∙ ap (λ (s : Scene). tile_count s.width s.height) here.0.scene
+
+-- it is found under the ticket that its phase has, with what its last look read, and what it waits for
+pub look_here : (i : Inside) (frames : Future) (frame ticket : ℕ) (look : ℕ × ℕ) → IsStanding i → frames ≡ i.flights.future → IsKept frames → phase_of frames frame ≡ phase.Flight ticket
+    → IfSome (flight_at frames ticket) (λ f. look ≡ (f.looked, awaited f)) → IfSome (flight_of i.flights.future frame) (λ f. look.1 ≡ tiles_at i.history f.ticket)
+look_here i frames frame ticket look stands same kept phase_is told = by (flight_of i.flights.future frame) refl
+  where
+    by : (o : Option Flying) → flight_of i.flights.future frame ≡ o → IfSome o (λ f. look.1 ≡ tiles_at i.history f.ticket)
+    by None none = tt
+    by (Some f) some =
+        let there : flight_of frames frame ≡ Some f = ap (λ (s : Future). flight_of s frame) same ∙ some in
+        let ticket_is : f.ticket ≡ ticket = ap ticket_of_phase (sym (phase_flight frames frame f there) ∙ phase_is) in
+        let found_there : flight_at frames ticket ≡ Some f = subst (λ t. flight_at frames t ≡ Some f) ticket_is (flight_found (is_flight_of frame) f frames.flights kept.rising there) in
+        let says : look ≡ (f.looked, awaited f) = subst (λ o. IfSome o (λ (g : Flying). look ≡ (g.looked, awaited g))) found_there told in
+        ap (λ (l : ℕ × ℕ). l.1) says ∙ flight_waits i frame f stands some
+
+pub flies_under : (frames : Future) (frame ticket : ℕ) → IsKept frames → IsSome (flight_of frames frame) → phase_of frames frame ≡ phase.Flight ticket → IsSome (flight_at frames ticket)
+flies_under frames frame ticket kept flies phase_is = by (flight_of frames frame) refl flies
+  where
+    by : (o : Option Flying) → flight_of frames frame ≡ o → IsSome o → IsSome (flight_at frames ticket)
     by None none some = absurd cc
-    by (Some f) is some =
-        let mine : IsCargo i frame f = frame_cargo i frame f parts books kept is in
-        let same : mine.cargo ≡ c = some_is (sym mine.there ∙ there) in
-        let loaded : IsLoaded i.history c = subst (IsLoaded i.history) same mine.loaded in
-        let ticket : c.ticket ≡ f.ticket = ap (λ (c : Cargo Load). c.ticket) (sym same) ∙ mine.ticket in
-        (f, loaded, λ tiles counted. counted ∙ ap (λ (s : Scene). tile_count s.width s.height) loaded.scene ∙ ap (tiles_at i.history) ticket)
+    by (Some f) some is =
+        let ticket_is : f.ticket ≡ ticket = ap ticket_of_phase (sym (phase_flight frames frame f some) ∙ phase_is) in
+        ap is_some (subst (λ t. flight_at frames t ≡ Some f) ticket_is (flight_found (is_flight_of frame) f frames.flights kept.rising some))
+
+-- a frame that has a flight is in flight
+pub flies_not : (frames : Future) (frame : ℕ) → IsSome (flight_of frames frame) → ((t : ℕ) → phase_of frames frame ≡ phase.Flight t → ⊥) → ⊥
+flies_not frames frame flies never = by (flight_of frames frame) refl flies
+  where
+    by : (o : Option Flying) → flight_of frames frame ≡ o → IsSome o → ⊥
+    by None none some = absurd cc
+    by (Some f) some is = never f.ticket (phase_flight frames frame f some)

@@ -131,24 +131,30 @@ reach_is_there s f reach once h some = by (has h (visited (walk (scene_objects s
         let none : times h reach ≡ 0 = once h ∙ ap (λ b. cond b 1 0) is in
         absurd (omega (arith, none, some))
 
+-- the last entry, a render, shows the scene of its frame
+last_state : (history : History) (actor f : ℕ) → state_before (history ++ render_of actor f ∷ []) (length history + 1) ≡ (after history).state
+last_state history actor f = state_early history (render_of actor f ∷ []) (length history + 1) (omega arith) ∙ state_next history
+
+last_shown : (history : History) (actor f : ℕ) → scene_at (history ++ render_of actor f ∷ []) (length history + 1) ≡ scene (scene_objects (after history).state) f
+unfolding scene_at
+last_shown history actor f =
+    ap (λ s. scene (scene_objects s) (unwrap_or (frame_at (history ++ render_of actor f ∷ []) (length history + 1)) 0)) (last_state history actor f)
+    ∙ ap (λ x. scene (scene_objects (after history).state) (unwrap_or x 0)) (frame_last history (render_of actor f))
+
 -- what a render took along is kept with its flight
 pub render_loaded : (history : History) (actor f : ℕ) (load : Load) → HasEachOnce (visited (walk (scene_objects (after history).state) f)) load.reach.items →
-    scene_of_load load ≡ scene (scene_objects (after history).state) f → IsSceneWithin (scene_of_load load) →
+    scene_of_load load ≡ Some (scene (scene_objects (after history).state) f) → IsSceneWithin (scene (scene_objects (after history).state) f) →
     IsLoaded (history ++ render_of actor f ∷ []) (record { ticket = length history + 1; frame = f; kept = load })
 unfolding scene_at is_reached_by
 render_loaded history actor f load once shows within = record {
   early = let longer = length-append history (render_of actor f ∷ []) in omega (arith, longer);
   reach = λ h. once h ∙ ap (λ o. cond (has h (unwrap_or o [])) 1 0) (sym reached);
-  scene = shows ∙ sym (ap (λ s. scene (scene_objects s) (unwrap_or (frame_at (history ++ render_of actor f ∷ []) (length history + 1)) 0)) state
-      ∙ ap (λ x. scene (scene_objects (after history).state) (unwrap_or x 0)) (frame_last history (render_of actor f)));
-  within = within;
+  scene = subst (λ o. IfSome o (λ s. s ≡ scene_at (history ++ render_of actor f ∷ []) (length history + 1))) (sym shows) (sym (last_shown history actor f));
+  within = subst IsSceneWithin (sym (last_shown history actor f)) within;
 }
   where
-    state : state_before (history ++ render_of actor f ∷ []) (length history + 1) ≡ (after history).state
-    state = state_early history (render_of actor f ∷ []) (length history + 1) (omega arith) ∙ state_next history
-
     reached : at (length history + 1) (after (history ++ render_of actor f ∷ [])).reached ≡ Some (reach_of (after history).state f)
-    reached = (carries (history ++ render_of actor f ∷ [])).right (length history + 1) f (frame_last history (render_of actor f)) ∙ ap (λ s. Some (reach_of s f)) state
+    reached = (carries (history ++ render_of actor f ∷ [])).right (length history + 1) f (frame_last history (render_of actor f)) ∙ ap (λ s. Some (reach_of s f)) (last_state history actor f)
 
 -- a world is prepared by its next render where it is not kept
 wanted : (history : History) (worlds : Worlds World) (w : ℕ) → AreKept (is_there history) history (reach_at worlds) → is_there history w ≡ true → is_none (kept_at worlds w) ≡ last_wants_build (last_use history w)

@@ -3,7 +3,7 @@ use Rattle.std.proofs.Common.{◌≡◌, ◌∙◌, ℕ, ◌+◌, ◌≤◌, ◌
 use Rattle.std.specs.Prelude.{IfSome, IsSome}
 use Rattle.std.specs.List.{AllByRecursion, filter_map, find}
 use Rattle.std.specs.Map.{keys_of}
-use Rattle.std.specs.Option.{MatchOption, is_none, is_some, option_and_then, option_map, option_map_or}
+use Rattle.std.specs.Option.{MatchOption, is_none, is_some, option_and_then, option_map, option_map_or, unwrap_or}
 use Rattle.std.proofs.lemmas.Bool.{eq-eqb, ne_eqb}
 use Rattle.dev_types.specs.Counting.{times}
 use Rattle.dev_types.specs.Words.{name_of_channel}
@@ -12,6 +12,7 @@ use Rattle.flight_books.specs.Kept.{Books, cargo_at, is_of, with_future}
 use Rattle.flight_books.specs.declared.kept.Cargo.{Cargo}
 use Rattle.frame_future.specs.Flights.{Flying, begun, is_stopped}
 use Rattle.frame_future.specs.Future.{with_flight}
+use Rattle.fx_math.specs.declared.scene.Scene.{Scene}
 use Rattle.kept_worlds.specs.KeptMaps.{Kept, Worlds, kept_at, reach_at, shown_at}
 use Rattle.kept_worlds.specs.LastKept.{AreKept, AreShown, is_there}
 use Rattle.kind_tables.specs.SceneObjects.{SceneObject, SceneObjects, value_named}
@@ -43,6 +44,8 @@ use Rattle.seq_model.specs.Told.{end_of_object, gone, status_at}
 use Rattle.seq_model.specs.declared.calls.Call.TheVariants.{RenderFrame}
 use Rattle.seq_model.specs.declared.calls.Entry.TheVariants.{Closed}
 use Rattle.seq_model.specs.declared.calls.Reply.TheVariants as reply
+use Rattle.tile_claims.specs.Parts.{scene_of}
+use Rattle.tile_claims.specs.Seats.{key_of}
 use Rattle.world_laws.specs.Alike.{shown_of}
 use Rattle.world_snapshot.specs.Worlds.{World}
 use Rattle.device_laws.proofs.CallFacts.{render_kept}
@@ -54,11 +57,12 @@ use Rattle.device_laws.proofs.ReplyFacts.{begun_told, quiet_told}
 use Rattle.device_laws.proofs.OverFacts.{others_over}
 use Rattle.device_laws.specs.Flown.{Flown, run_of, runs_of}
 use Rattle.device_laws.specs.FramesStand.{FramesStand, LeavesBut, without_pictures}
+use Rattle.device_core.proofs.AboardFacts.{aboard_push}
 use Rattle.device_core.proofs.BeginFacts.{moved, not_refused, render_follows}
 use Rattle.device_core.proofs.CalledFacts.{called_lets}
 use Rattle.device_core.proofs.EntryFacts.{all_loaded, leaves, parts_after}
 use Rattle.device_core.proofs.RenderSteps.{reach_is_there, render_counted, render_granted, render_loaded}
-use Rattle.device_core.specs.AllParts.{AreParts, Inside, IsLoaded, scene_of_load, shown_by}
+use Rattle.device_core.specs.AllParts.{AreAboard, AreParts, Inside, IsLoaded, scene_of_load, shown_by}
 use Rattle.device_core.specs.Begins.{HasBegun, IsTakeoff, asks_in, with_takeoff}
 use Rattle.device_core.specs.Calls.{HasEntered}
 use Rattle.device_core.specs.Deaths.{all_but_those, unless_dead}
@@ -75,6 +79,7 @@ same_kept old worlds p same = record {
   rest = p.rest;
   flown = p.flown;
   loaded = p.loaded;
+  aboard = p.aboard;
   lets = p.lets;
   kept = λ w. ap (option_map (λ k. k.reach)) (same w) ∙ p.kept w;
   shown = λ w. subst (λ x. MatchOption (option_map (λ k. shown_by k.value) x) (Unit {0}) (λ shown. shown ≡ shown_of (scene_objects (after old.history).state) w)) (sym (same w)) (p.shown w);
@@ -128,12 +133,19 @@ module _ (old : Inside) (actor f : ℕ) (p : AreParts old) (legal : Legal (old.h
       by (Some o) is = refl
 
   module _ (counted_old : CountsItsObjects old.objects.stored) (load : Load) (t : Takeoff) (takes : IsTakeoff objects (length old.history + 1) f load t)
-      (once : HasEachOnce (visited (walk objects f)) load.reach.items) (shows_scene : scene_of_load load ≡ scene objects f) (within : IsSceneWithin (scene_of_load load)) where
+      (once : HasEachOnce (visited (walk objects f)) load.reach.items) (shows_scene : scene_of_load load ≡ Some (scene objects f)) (within : IsSceneWithin (scene objects f)) where
     pub once_after : HasEachOnce (visited (walk (scene_objects (after old.history).state) f)) load.reach.items
     once_after = subst (λ o. HasEachOnce (visited (walk o f)) load.reach.items) same_objects once
 
-    scene_after : scene_of_load load ≡ scene (scene_objects (after old.history).state) f
-    scene_after = shows_scene ∙ ap (λ o. scene o f) same_objects
+    scene_after : scene_of_load load ≡ Some (scene (scene_objects (after old.history).state) f)
+    scene_after = shows_scene ∙ ap (λ o. Some (scene o f)) same_objects
+
+    -- the scene of the claims with which the flight begins
+    claimed_scene : scene_of (key_of t.claims) ≡ scene (scene_objects (after old.history).state) f
+    claimed_scene = some_is (sym takes.scene ∙ scene_after)
+      where
+        some_is : {a b : Scene} → Some a ≡ Some b → a ≡ b
+        some_is {a} same = ap (λ o. unwrap_or o a) same
 
     pub reach_there : (h : ℕ) → 0 < times h load.reach.items → IsSome (object_at old.objects.stored.state h)
     reach_there = reach_is_there old.objects.stored.state f load.reach.items once
@@ -217,7 +229,7 @@ module _ (old : Inside) (actor f : ℕ) (p : AreParts old) (legal : Legal (old.h
       run = λ i. record { ticket = ticket_is i; frame = frame_is i; stopped = going i }
 
       load_is : IsLoaded (old.history ++ render_of actor f ∷ []) t.cargo
-      load_is = subst (IsLoaded (old.history ++ render_of actor f ∷ [])) (sym takes.cargo) (render_loaded old.history actor f load once_after scene_after within)
+      load_is = subst (IsLoaded (old.history ++ render_of actor f ∷ [])) (sym takes.cargo) (render_loaded old.history actor f load once_after scene_after (subst (λ o. IsSceneWithin (scene o f)) same_objects within))
 
       pub rendered_parts : IsStanding old → length old.history + length old.flights.future.flights + 2 < old.room → AreParts new
       rendered_parts stands place = parts_after old new (render_of actor f) moved_now mid p no_close follows_now counted_moved counted is_left is_buried departed grown
@@ -226,6 +238,8 @@ module _ (old : Inside) (actor f : ℕ) (p : AreParts old) (legal : Legal (old.h
           (render_adds old.history actor f (runs_of old.flights.future.flights) legal p.flown)))
           (subst (λ (b : Books Load). AllByRecursion (IsLoaded (old.history ++ render_of actor f ∷ [])) b.cargo) (sym flights)
           (joined (IsLoaded (old.history ++ render_of actor f ∷ [])) old.flights.cargo (t.cargo ∷ []) (all_loaded old.history (render_of actor f) old.flights.cargo p.loaded) (load_is, tt)))
+          (subst (λ fs. AreAboard fs new.flights.cargo) (sym frames_are) (subst (λ (b : Books Load). AreAboard (old.flights.future.flights ++ flight ∷ []) b.cargo) (sym flights)
+          (aboard_push old.flights.future.flights old.flights.cargo flight t.cargo (ap (λ (c : Cargo Load). scene_of_load c.kept) takes.cargo ∙ takes.scene) p.aboard)))
           (subst (λ (b : Books Load). AllOver (old.history ++ render_of actor f ∷ []) b.over) (sym flights) (others_over old.history (render_of actor f) old.flights.over legal refl p.over))
           (called_lets old.history actor (RenderFrame f) reply.Done stands.frames.open_) touched shows forgotten known
           (counts ∙ ap (λ n. n + cond build 1 0) p.built
@@ -251,7 +265,7 @@ module _ (old : Inside) (actor f : ℕ) (p : AreParts old) (legal : Legal (old.h
           leaves old.history (render_of actor f) moved_now new.objects.stored new.objects.departed no_close follows_now counted_moved counted is_left is_buried departed in
           let kept : FramesStand (old.history ++ render_of actor flight.frame ∷ []) (without_pictures (with_flight old.flights.future flight) new.objects.departed) =
           render_kept old.history actor old.flights.future flight new.objects.departed ticket_is going
-          (takes.scene ∙ scene_after ∙ ap (scene (scene_objects (after old.history).state)) (sym frame_is))
+          (claimed_scene ∙ ap (scene (scene_objects (after old.history).state)) (sym frame_is))
           (λ c. takes.asked c ∙ asks_read c ∙ ap (λ h. asks_for (after old.history).state h c) (sym frame_is))
           p.flown (subst (λ h. LeavesBut old.history (render_of actor h) new.objects.departed) (sym frame_is) left) stands.frames in
           record {
@@ -279,7 +293,8 @@ module _ (old : Inside) (actor f : ℕ) (p : AreParts old) (legal : Legal (old.h
         takeoff = t;
         ticket = ticket_is;
         frame = frame_is;
-        scene = takes.scene ∙ ap (λ (c : Cargo Load). scene_of_load c.kept) (sym takes.cargo) ∙ load_is.scene ∙ ap (scene_at (old.history ++ render_of actor f ∷ [])) ticket_is
+        scene = subst (λ o. IfSome o (λ s. s ≡ scene_at (old.history ++ render_of actor f ∷ []) t.cargo.ticket)) (ap (λ (c : Cargo Load). scene_of_load c.kept) takes.cargo ∙ takes.scene) load_is.scene
+            ∙ ap (scene_at (old.history ++ render_of actor f ∷ [])) ticket_is
             ∙ ap (λ h. scene_at h (length old.history + 1)) (sym grown);
         fresh = takes.new;
         begins = flights;

@@ -1,7 +1,7 @@
 -- A flight that a look showed to be over, with what was kept with it, and the runs that are left.
 use Rattle.std.proofs.Common.{◌≡◌, ◌∙◌, ℕ, Bool, false, List, [], ◌∷◌, ◌++◌, Option, Some, None, length, refl, sym, ap, subst}
 use Rattle.std.specs.Option.{IsSomeAnd}
-use Rattle.std.proofs.lemmas.List.{append_assoc, length-map}
+use Rattle.std.proofs.lemmas.List.{length-map}
 use Rattle.flight_books.specs.Kept.{AreBooks, Books, IsBooked, cargo_at}
 use Rattle.flight_books.specs.declared.kept.Cargo.{Cargo}
 use Rattle.flight_books.proofs.PairLaws.{ticket_booked}

@@ -3,7 +3,7 @@ use Rattle.std.proofs.Common.{◌≡◌, ◌∙◌, ℕ, ◌+◌, ◌<◌, List,
 use Rattle.std.proofs.lemmas.List.{append-nil}
 use Rattle.std.specs.List.{AllByRecursion, filter_map}
 use Rattle.flight_books.specs.Kept.{without}
-use Rattle.flight_books.specs.Sweeps.{IsSwept, IsUnderWay, note_of_end}
+use Rattle.flight_books.specs.Sweeps.{IsSwept, IsUnderWay, note, note_of_end}
 use Rattle.flight_books.proofs.SweepLaws.{begins, fewer, goes_on, is_over}
 use Rattle.frame_future.specs.Future.{AreHome, Finished, Future}
 use Rattle.frame_future.specs.Reads.{AreSeen, ended_by, pictures_of}
@@ -13,7 +13,7 @@ use Rattle.seq_model.proofs.Tellings.{told_more}
 use Rattle.seq_model.specs.Told.{told}
 use Rattle.device_core.specs.AllParts.{Inside}
 use Rattle.device_core.specs.Deaths.{all_told}
-use Rattle.device_core.specs.Notes.{HasNoted, HasNotedNothing, note}
+use Rattle.device_core.specs.Notes.{HasNoted, HasNotedNothing}
 use Rattle.device_core.specs.Sweeps.{HasSwept, showing}
 use Rattle.device_laws.proofs.FramesStandFacts.{fewer_kept}
 

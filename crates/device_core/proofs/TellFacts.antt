@@ -2,10 +2,10 @@
 use Rattle.std.proofs.Common.{◌≡◌, ℕ, Bool, true, false, cond, List, [], ◌∷◌, length, map, ap, ap₂, refl}
 use Rattle.std.specs.List.{cons_option, filter_map}
 use Rattle.object_steps.specs.Objects.{tellable}
+use Rattle.flight_books.specs.Sweeps.{note}
 use Rattle.seq_model.specs.State.{Done, Empty, Object, Phase, State, is_in_flight}
 use Rattle.seq_model.specs.Steps.{change, end_flight, end_flights, set_phase}
 use Rattle.seq_model.specs.Told.{end_of_object}
-use Rattle.device_core.specs.Notes.{note}
 
 module _ (t : ℕ) (phase : Phase) where
   abbrev ends : List (ℕ × Object) → List (ℕ × Object)

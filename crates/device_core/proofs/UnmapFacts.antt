@@ -1,5 +1,5 @@
 -- What always holds of the parts of a device holds once the loan of a frame's channel ends.
-use Rattle.std.proofs.Common.{◌≡◌, ◌∙◌, ℕ, ◌+◌, true, [], ◌∷◌, ◌++◌, Option, None, Some, length, refl, sym, ap, subst, arith}
+use Rattle.std.proofs.Common.{◌≡◌, ◌∙◌, ℕ, ◌+◌, true, [], ◌∷◌, ◌++◌, Option, None, Some, refl, sym, ap, subst, arith}
 use Rattle.std.proofs.lemmas.Bool.{eqb-true}
 use Rattle.std.specs.Option.{option_map_or}
 use Rattle.dev_types.specs.declared.handles.Channel.{Channel}
@@ -30,8 +30,9 @@ use Rattle.device_laws.proofs.LoanFacts.{unmap_kept}
 use Rattle.device_laws.proofs.StandingFacts.{found}
 use Rattle.device_laws.specs.Replies.{AreTold}
 use Rattle.device_laws.proofs.ReplyFacts.{quiet_told}
-use Rattle.device_core.specs.AllParts.{AreParts, Inside}
+use Rattle.device_core.specs.AllParts.{AreAboard, AreParts, Inside}
 use Rattle.device_core.specs.Standing.{IsStanding}
+use Rattle.device_core.proofs.AboardFacts.{same_aboard}
 use Rattle.device_core.specs.declared.loads.Load.{Load}
 use Rattle.device_core.proofs.KeptFacts.{there_as}
 
@@ -74,8 +75,8 @@ module _ (old : Inside) (actor h number : ℕ) (p : AreParts old) (legal : Legal
     unmap_flies = subst (λ fs. Flown (old.history ++ entry ∷ []) (runs_of fs)) (sym frames_are)
         (subst (λ fs. Flown (old.history ++ entry ∷ []) (runs_of fs)) (fewer_kept old.flights.future []).0 (call_flown old.history entry old.flights.future [] legal refl p.flown))
 
-    pub unmap_count : length new.flights.future.flights ≡ length old.flights.future.flights
-    unmap_count = ap length frames_are
+    pub unmap_aboard : AreAboard new.flights.future.flights old.flights.cargo
+    unmap_aboard = same_aboard old p new.flights.future.flights frames_are
 
     pub unmap_stands : IsKept old.flights.future → refusal (after old.history) (UnmapFrame h number) ≡ None → loan_in (mapped_at (after old.history) h) c ≡ Some number
         → LeavesBut old.history entry new.objects.departed → IsStanding old → IsStanding new

@@ -44,7 +44,7 @@ with_takeoff t b = record {
 -- claimed, and the channels for which the frame asks
 pub record IsTakeoff (objects : SceneObjects) (ticket f : ℕ) (load : Load) (t : Takeoff) : Type 0 where
   pub cargo : t.cargo ≡ record { ticket = ticket; frame = f; kept = load }
-  pub scene : scene_of (key_of t.claims) ≡ scene_of_load load
+  pub scene : scene_of_load load ≡ Some (scene_of (key_of t.claims))
   pub new : IsNew t.claims t.seat
   pub sized : IsSized (key_of t.claims)
   pub asked : (c : Channel) → is_asked t.channels c ≡ asks_in objects f c

@@ -1,14 +1,19 @@
 -- What the clauses of this crate cite.
+pub mod Asks
 pub mod Ends
 pub mod Holds
+pub mod Looks
 pub mod AllParts
 pub mod Deaths
 pub mod Standing
 pub mod Notes
 pub mod Begins
 pub mod Discards
+pub mod Maps
 pub mod Unmaps
 pub mod Calls
 pub mod Renders
 pub mod Sweeps
+pub mod Lends
+pub mod Works
 pub mod Uses

@@ -1,7 +1,8 @@
 -- What the note of a flight that ended does to the parts of a device.
-use Rattle.std.specs.Prelude.{◌≡◌, ◌+◌, ◌++◌, ◌∷◌, [], ℕ, Bool, None, Some, if◌then◌else◌}
+use Rattle.std.specs.Prelude.{◌≡◌, ◌+◌, ◌++◌, ◌∷◌, [], ℕ, None, Some}
 use Rattle.std.specs.List.{filter_map}
 use Rattle.flight_books.specs.Kept.{over_by, without}
+use Rattle.flight_books.specs.Sweeps.{note}
 use Rattle.frame_future.specs.Future.{Future}
 use Rattle.frame_future.specs.Reads.{AreSeen}
 use Rattle.frame_future.specs.declared.phase.Ended.{Ended}
@@ -9,15 +10,9 @@ use Rattle.object_store.specs.Ends.{notice_of}
 use Rattle.object_steps.specs.Objects.{tellable}
 use Rattle.seq_model.specs.Steps.{after}
 use Rattle.seq_model.specs.Told.{told_by}
-use Rattle.seq_model.specs.declared.calls.Entry.{Entry}
-use Rattle.seq_model.specs.declared.calls.Entry.TheVariants.{Finished, Left}
 use Rattle.device_core.specs.AllParts.{Inside}
 use Rattle.device_core.specs.Deaths.{untold}
 use Rattle.device_laws.specs.FramesStand.{without_pictures}
-
--- the note of a flight that ended, which was stopped or not
-abbrev pub note : Bool → ℕ → Entry
-note stopped t = if stopped then Left t else Finished t
 
 -- The flights above a ticket were looked at up to the first that ended, and that has ticket t. The
 -- history grew by its note alone, the flight is over, and of the frames that died no picture is

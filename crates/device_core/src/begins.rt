@@ -1,5 +1,5 @@
 //! Renders: a flight begins.
-ghost use Rattle.std.specs.Prelude.{◌≡◌, ◌+◌, ◌++◌, ◌∷◌, [], ◌<◌, ◌≤◌, ◌^◌, ℕ, All, None, false, IfOk, IfSome, IsSome, OnErr, OnOk, length};
+ghost use Rattle.std.specs.Prelude.{◌≡◌, ◌+◌, ◌++◌, ◌∷◌, [], ◌<◌, ◌≤◌, ◌^◌, ℕ, All, None, Some, false, IfOk, IfSome, IsSome, OnErr, OnOk, length};
 ghost use Rattle.dev_types.specs.declared.handles.Channel.{Channel as Channels};
 ghost use Rattle.dev_types.specs.Counting.{times};
 ghost use Rattle.flight_books.specs.Kept.{cargo_at};
@@ -22,7 +22,7 @@ ghost use Rattle.seq_model.specs.Steps.{after};
 ghost use Rattle.seq_model.specs.declared.calls.Call.TheVariants.{RenderFrame};
 ghost use Rattle.seq_model.specs.declared.calls.Reply.TheVariants as reply;
 ghost use Rattle.tile_claims.specs.Seats.{key_of};
-ghost use Rattle.device_core.specs.AllParts.{scene_of_load, shown_by};
+ghost use Rattle.device_core.specs.AllParts.{scene_prepared, shown_by};
 ghost use Rattle.device_core.specs.Begins.{HasBegun, IsTakeoff, asks_in, with_takeoff, without_world, world_of_build};
 ghost use Rattle.device_core.specs.Calls.{HasEntered, HasRoomMade};
 ghost use Rattle.device_core.specs.Holds.{held_too, with_holds};
@@ -31,7 +31,7 @@ ghost use Rattle.device_core.specs.Standing.{IsStanding};
 
 use crate::burials::bury;
 use crate::holds::{can_be_held, hold_all};
-use crate::loads::Load;
+use crate::loads::{Load, PreparedScene};
 use crate::parts::Parts;
 use crate::records::Recorded;
 use crate::renders::{Build, NewLoad, keep_build, load_of};
@@ -141,23 +141,29 @@ pub(crate) fn begin_kept(
     Ok(())
 }
 
-/// What the flight of a frame begins with under this ticket. The only error is want of memory.
+/// What the flight of a frame begins with under this ticket, of which the scene reached these objects.
+/// The only error is want of memory.
 fn takeoff_of<O: Objects>(
     alloc: Global,
     state: &O,
     ticket: u64,
     frame: Handle,
-    load: Load,
+    reach: Vec<Handle>,
+    scene: PreparedScene,
 ) -> Result<Takeoff, NoMemory>
-    requires { IsSceneWithin (scene_of_load load) }
-    ensures { IfOk result (IsTakeoff (O.objects state.now) ticket frame load) }
+    requires { IsSceneWithin (scene_prepared scene) }
+    ensures { IfOk result (IsTakeoff (O.objects state.now) ticket frame
+        (record { reach = reach; scene = Some scene })) }
 {
-    let (claims, seat) = load.claims(alloc)?;
+    let (claims, seat) = scene.claims(alloc)?;
     let channels = asked_channels(state, frame);
     let cargo = Cargo {
         ticket,
         frame,
-        kept: load,
+        kept: Load {
+            reach,
+            scene: Some(scene),
+        },
     };
     Ok(Takeoff {
         cargo,
@@ -216,11 +222,15 @@ impl Parts {
         let place = self.entries() + 1;
         let store = self.objects.store();
         store.counts_its_objects();
-        let NewLoad { load, build } = load_of(alloc, store, &self.worlds, frame, visits)?;
-        if !can_be_held(store, load.reach.as_slice()) {
+        let NewLoad {
+            reach,
+            scene,
+            build,
+        } = load_of(alloc, store, &self.worlds, frame, visits)?;
+        if !can_be_held(store, reach.as_slice()) {
             return Err(NoMemory);
         }
-        let takeoff = takeoff_of(alloc, store, place, frame, load)?;
+        let takeoff = takeoff_of(alloc, store, place, frame, reach, scene)?;
         let built = build.is_some();
         begin_kept(&mut self.flights, &mut self.worlds, alloc, build, takeoff)?;
         self.objects.show(frame, Shows::Flight(place));

@@ -2,21 +2,28 @@
 //! happened.
 #![tactic(auto)]
 
+mod asks;
 mod begins;
 mod burials;
 mod calls;
 mod discards;
 mod ends;
 mod holds;
+mod lends;
 mod loads;
+mod looks;
+mod maps;
 mod notes;
 mod parts;
 mod records;
 mod renders;
+mod rooms;
 mod sweeps;
 mod unmaps;
 mod uses;
+mod works;
 
-pub use loads::Load;
+pub use loads::{Load, PreparedScene};
 pub use parts::Parts;
 pub use renders::{Build, NewLoad, keep_build, load_of};
+pub use works::{Handout, Idle};

@@ -8,9 +8,9 @@ ghost use Rattle.device_core.specs.Standing.{IsStanding};
 use crate::parts::Parts;
 use call_answers::Shown;
 use dev_types::Handle;
+use frame_future::Phase;
 use object_steps::Records;
 use object_store::slots::Shows;
-use picture_model::tile_count;
 use std::marker::Model;
 
 /// The parts of a device whose end has not begun.
@@ -90,16 +90,15 @@ impl Parts {
 
     /// In how many tiles the flight of a frame is rendered.
     fn tiles(&self, frame: Handle) -> u64
-        requires { IsSome (flight_of self.now.flights.future frame) }
+        requires stands { IsStanding self.now }
+        requires flies { IsSome (flight_of self.now.flights.future frame) }
         ensures { IfSome (flight_of self.now.flights.future frame)
             (λ f. result ≡ tiles_at self.now.history f.ticket) }
     {
-        // Its clause tells the proof what always holds of the flights.
-        self.flights.frames().are_kept();
-        let Some(cargo) = self.flights.cargo_of(frame) else {
+        let frames = self.flights.frames();
+        let Phase::Flight(ticket) = frames.phase_of(frame) else {
             unreachable!();
         };
-        let (width, height) = cargo.kept.view.size;
-        u64::from(tile_count(width, height))
+        frames.last_look(ticket).1
     }
 }

@@ -11,7 +11,7 @@ ghost use Rattle.seq_model.specs.Legal.{Legal};
 ghost use Rattle.seq_model.specs.State.{scene_objects};
 ghost use Rattle.seq_model.specs.Steps.{after};
 ghost use Rattle.world_snapshot.specs.Worlds.{IsShownBy};
-ghost use Rattle.device_core.specs.AllParts.{scene_of_load, shown_by};
+ghost use Rattle.device_core.specs.AllParts.{scene_prepared, shown_by};
 ghost use Rattle.device_core.specs.Begins.{without_world, world_of_build};
 ghost use Rattle.device_core.specs.Renders.{
   AreCurrent,
@@ -23,7 +23,7 @@ ghost use Rattle.device_core.specs.Renders.{
   world_in,
 };
 
-use crate::loads::Load;
+use crate::loads::PreparedScene;
 use dev_types::{Handle, NoMemory};
 use kept_worlds::KeptWorlds;
 use scene_read::readers::named;
@@ -43,8 +43,10 @@ pub struct Build {
 /// What a render takes along.
 #[derive(Drop)]
 pub struct NewLoad {
-    /// What is kept with its flight.
-    pub load: Load,
+    /// The objects that its scene reached.
+    pub reach: Vec<Handle>,
+    /// Its scene.
+    pub scene: PreparedScene,
     /// The world of the frame, where it was not kept and is to be.
     pub build: Option<Build>,
 }
@@ -137,20 +139,19 @@ pub fn load_of<O: Objects>(
     requires granted { IsGranted (O.objects state.now) frame visits.now }
     requires kept { AreCurrent (O.objects state.now) worlds.now }
     ensures reach { IfOk result (λ n. HasEachOnce (visited (walk (O.objects state.now) frame))
-        n.load.reach.items) }
-    ensures scene { IfOk result (λ n. scene_of_load n.load ≡ scene (O.objects state.now) frame) }
-    ensures within { IfOk result (λ n. IsSceneWithin (scene_of_load n.load)) }
+        n.reach.items) }
+    ensures scene { IfOk result (λ n. scene_prepared n.scene ≡ scene (O.objects state.now) frame) }
+    ensures within { IfOk result (λ n. IsSceneWithin (scene_prepared n.scene)) }
     ensures build { IfOk result (λ n. IsWanted (O.objects state.now) worlds.now frame n.build) }
 {
     let reach = reach_of(alloc, visits)?;
     let (prepared, build) = prepared_for(alloc, state, worlds, frame, visits)?;
     let view = view_of(alloc, state, frame, &prepared)?;
-    let load = Load {
+    Ok(NewLoad {
         reach,
-        prepared,
-        view,
-    };
-    Ok(NewLoad { load, build })
+        scene: PreparedScene { prepared, view },
+        build,
+    })
 }
 
 /// Keeps the world that a render prepared, if it prepared one. The only error is want of memory,

@@ -7,6 +7,7 @@ ghost use Rattle.object_store.specs.Ends.{notice_of};
 ghost use Rattle.object_steps.specs.Objects.{tellable};
 ghost use Rattle.seq_model.specs.Told.{told};
 ghost use Rattle.device_core.specs.Deaths.{all_told, untold};
+ghost use Rattle.device_core.specs.Looks.{AreShort};
 ghost use Rattle.device_core.specs.Standing.{IsStanding};
 ghost use Rattle.device_core.specs.Sweeps.{HasSwept};
 
@@ -40,6 +41,7 @@ impl Parts {
             → C.notices client.new ≡ before ++ told self.new.history }
         ensures room { C.spare client.old + length (C.notices client.old)
             ≤ C.spare client.new + length (C.notices client.new) }
+        ensures short { AreShort self.new.flights.future }
         ensures stands { IsStanding self.old → IsStanding self.new }
     {
         // Its clause tells the proof what always holds of the flights.

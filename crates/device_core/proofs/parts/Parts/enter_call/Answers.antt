@@ -21,7 +21,7 @@ use Rattle.device_core.specs.AllParts.{Inside, shown_by}
 use Rattle.device_core.specs.Calls.{HasEntered}
 use Rattle.device_core.specs.Standing.{IsStanding}
 use Rattle.device_core.specs.declared.loads.Load.{Load}
-use Rattle.device_core.proofs.CalledFacts.{called_enters, called_leaves, called_parts, moved, moved_count, moved_flown, moved_follows, moved_stands, no_render}
+use Rattle.device_core.proofs.CalledFacts.{called_enters, called_leaves, called_parts, moved, moved_aboard, moved_flown, moved_follows, moved_stands, no_render}
 use Rattle.device_core.proofs.parts.Parts.enter_call.Goals as goal
 
 pub bury-requires-clause-ranked : goal.bury-requires-clause-ranked
@@ -58,7 +58,7 @@ invariant_of-self-2 c =
     (c.bury.ensures.departed ∙ ap (λ (s : Stored). keys_of (gone s.state c.bury.new.objects.stored.state)) moves)
     c.push_reserved.ensures.items
     (moved_flown old c.args.actor c.args.call c.args.reply c.self.invariant c.requires.of_objects new legal c.bury.ensures.flights)
-    (moved_count old c.args.actor c.args.call c.args.reply c.self.invariant c.requires.of_objects new c.bury.ensures.flights)
+    (moved_aboard old c.args.actor c.args.call c.args.reply c.self.invariant c.requires.of_objects new c.bury.ensures.flights)
     (ap (λ (b : Books Load). b.cargo) c.bury.ensures.flights) (ap (λ (b : Books Load). b.over) c.bury.ensures.flights)
     (c.touch.ensures.known old.history c.args.actor (is_there old.history) c.self.invariant.kept)
     (c.touch.ensures.shown shown_by old.history c.self.invariant.shown)
@@ -89,7 +89,7 @@ returns-clause-entered c =
     (c.bury.ensures.departed ∙ ap (λ (s : Stored). keys_of (gone s.state c.bury.new.objects.stored.state)) moves)
     c.push_reserved.ensures.items
     (moved_flown old c.args.actor c.args.call c.args.reply c.self.invariant c.requires.of_objects new legal c.bury.ensures.flights)
-    (moved_count old c.args.actor c.args.call c.args.reply c.self.invariant c.requires.of_objects new c.bury.ensures.flights)
+    (moved_aboard old c.args.actor c.args.call c.args.reply c.self.invariant c.requires.of_objects new c.bury.ensures.flights)
     (ap (λ (b : Books Load). b.cargo) c.bury.ensures.flights) (ap (λ (b : Books Load). b.over) c.bury.ensures.flights)
     (c.touch.ensures.known old.history c.args.actor (is_there old.history) c.self.invariant.kept)
     (c.touch.ensures.shown shown_by old.history c.self.invariant.shown)
@@ -119,7 +119,7 @@ returns-clause-stands c =
     (c.bury.ensures.departed ∙ ap (λ (s : Stored). keys_of (gone s.state c.bury.new.objects.stored.state)) moves)
     c.push_reserved.ensures.items
     (moved_flown old c.args.actor c.args.call c.args.reply c.self.invariant c.requires.of_objects new legal c.bury.ensures.flights)
-    (moved_count old c.args.actor c.args.call c.args.reply c.self.invariant c.requires.of_objects new c.bury.ensures.flights)
+    (moved_aboard old c.args.actor c.args.call c.args.reply c.self.invariant c.requires.of_objects new c.bury.ensures.flights)
     (ap (λ (b : Books Load). b.cargo) c.bury.ensures.flights) (ap (λ (b : Books Load). b.over) c.bury.ensures.flights)
     (c.touch.ensures.known old.history c.args.actor (is_there old.history) c.self.invariant.kept)
     (c.touch.ensures.shown shown_by old.history c.self.invariant.shown)

@@ -24,7 +24,7 @@ use Rattle.device_core.specs.Calls.{HasEntered}
 use Rattle.device_core.specs.Standing.{IsStanding}
 use Rattle.device_core.specs.declared.loads.Load.{Load}
 use Rattle.device_core.proofs.CalledFacts.{called_enters, called_leaves, called_parts}
-use Rattle.device_core.proofs.DiscardFacts.{discard_count, discard_flies, discard_follows, discard_stands, discard_tells, moved}
+use Rattle.device_core.proofs.DiscardFacts.{discard_aboard, discard_flies, discard_follows, discard_stands, discard_tells, moved}
 use Rattle.device_core.proofs.parts.Parts.enter_discard.Goals as goal
 
 pub bury-requires-clause-ranked : goal.bury-requires-clause-ranked
@@ -53,7 +53,7 @@ invariant_of-self-2 c =
     (c.bury.ensures.departed ∙ ap (λ (s : Stored). keys_of (gone s.state c.bury.new.objects.stored.state)) moves)
     c.push_reserved.ensures.items
     (discard_flies old c.args.actor c.args.h c.discard.new.self.stored.places c.self.invariant legal new c.discard-2.new.self.future c.push_reserved.ensures.items kept c.discard-2.ensures.discarded left)
-    (discard_count old c.args.actor c.args.h c.discard.new.self.stored.places c.self.invariant legal new c.discard-2.new.self.future c.push_reserved.ensures.items kept c.discard-2.ensures.discarded left)
+    (discard_aboard old c.args.actor c.args.h c.discard.new.self.stored.places c.self.invariant legal new c.discard-2.new.self.future c.push_reserved.ensures.items kept c.discard-2.ensures.discarded left)
     (ap (λ (b : Books Load). b.cargo) c.bury.ensures.flights ∙ c.discard-2.ensures.cargo) (ap (λ (b : Books Load). b.over) c.bury.ensures.flights ∙ c.discard-2.ensures.over)
     (stay_known old.history (Called c.args.actor (DiscardFrame c.args.h) reply.Done) (is_there old.history) (reach_at old.worlds) refl (λ objects. refl) c.self.invariant.kept)
     c.self.invariant.shown
@@ -80,7 +80,7 @@ returns-clause-entered c =
     (c.bury.ensures.departed ∙ ap (λ (s : Stored). keys_of (gone s.state c.bury.new.objects.stored.state)) moves)
     c.push_reserved.ensures.items
     (discard_flies old c.args.actor c.args.h c.discard.new.self.stored.places c.self.invariant legal new c.discard-2.new.self.future c.push_reserved.ensures.items kept c.discard-2.ensures.discarded left)
-    (discard_count old c.args.actor c.args.h c.discard.new.self.stored.places c.self.invariant legal new c.discard-2.new.self.future c.push_reserved.ensures.items kept c.discard-2.ensures.discarded left)
+    (discard_aboard old c.args.actor c.args.h c.discard.new.self.stored.places c.self.invariant legal new c.discard-2.new.self.future c.push_reserved.ensures.items kept c.discard-2.ensures.discarded left)
     (ap (λ (b : Books Load). b.cargo) c.bury.ensures.flights ∙ c.discard-2.ensures.cargo) (ap (λ (b : Books Load). b.over) c.bury.ensures.flights ∙ c.discard-2.ensures.over)
     (stay_known old.history (Called c.args.actor (DiscardFrame c.args.h) reply.Done) (is_there old.history) (reach_at old.worlds) refl (λ objects. refl) c.self.invariant.kept)
     c.self.invariant.shown
@@ -106,7 +106,7 @@ returns-clause-stands c =
     (c.bury.ensures.departed ∙ ap (λ (s : Stored). keys_of (gone s.state c.bury.new.objects.stored.state)) moves)
     c.push_reserved.ensures.items
     (discard_flies old c.args.actor c.args.h c.discard.new.self.stored.places c.self.invariant legal new c.discard-2.new.self.future c.push_reserved.ensures.items kept c.discard-2.ensures.discarded left)
-    (discard_count old c.args.actor c.args.h c.discard.new.self.stored.places c.self.invariant legal new c.discard-2.new.self.future c.push_reserved.ensures.items kept c.discard-2.ensures.discarded left)
+    (discard_aboard old c.args.actor c.args.h c.discard.new.self.stored.places c.self.invariant legal new c.discard-2.new.self.future c.push_reserved.ensures.items kept c.discard-2.ensures.discarded left)
     (ap (λ (b : Books Load). b.cargo) c.bury.ensures.flights ∙ c.discard-2.ensures.cargo) (ap (λ (b : Books Load). b.over) c.bury.ensures.flights ∙ c.discard-2.ensures.over)
     (stay_known old.history (Called c.args.actor (DiscardFrame c.args.h) reply.Done) (is_there old.history) (reach_at old.worlds) refl (λ objects. refl) c.self.invariant.kept)
     c.self.invariant.shown

@@ -1,4 +1,4 @@
-use Rattle.std.proofs.Common.{◌≡◌, ◌∙◌, ℕ, ◌+◌, ◌≤◌, ◌<◌, ◌^◌, ◌++◌, ◌∷◌, [], All, Bool, true, false, arith, cond, length, refl, subst, sym, ap}
+use Rattle.std.proofs.Common.{◌≡◌, ◌∙◌, ℕ, ◌+◌, ◌≤◌, ◌<◌, ◌^◌, ◌++◌, ◌∷◌, [], All, Some, Bool, true, false, arith, cond, length, refl, subst, sym, ap}
 use mir.Val.{bool_byte}
 use Rattle.std.specs.Prelude.{slice_index_or, vec_capacity}
 use Rattle.frame_future.specs.Flights.{Flying, begun}
@@ -16,6 +16,7 @@ use Rattle.object_store.specs.Kept.{CountsItsObjects, Stored, number_at}
 use Rattle.object_steps.specs.Objects.{Objects}
 use Rattle.object_steps.proofs.Rested.{ranked}
 use Rattle.past_laws.specs.Worlds.{render_of}
+use Rattle.picture_model.specs.Limits.{IsSceneWithin}
 use Rattle.past_laws.proofs.WorldFacts.{builds_within}
 use Rattle.scene_read.specs.Starts.{all_seen}
 use Rattle.seq_model.specs.Legal.{Legal}
@@ -26,7 +27,7 @@ use Rattle.seq_model.specs.Told.{end_of_object, gone}
 use Rattle.seq_model.specs.declared.calls.Call.TheVariants.{RenderFrame}
 use Rattle.seq_model.specs.declared.calls.Reply.TheVariants as reply
 use Rattle.device_laws.specs.FramesStand.{without_pictures}
-use Rattle.device_core.specs.AllParts.{Inside, scene_of_load}
+use Rattle.device_core.specs.AllParts.{Inside, scene_of_load, scene_prepared}
 use Rattle.device_core.specs.Begins.{HasBegun, IsTakeoff}
 use Rattle.device_core.specs.Calls.{HasEntered}
 use Rattle.device_core.specs.Renders.{HasEachOnce, IsGranted, IsWanted, wants_build}
@@ -64,15 +65,16 @@ begin_kept-requires-clause-landed c =
     let legal : Legal (old.history ++ render_of actor f ∷ []) = subst (λ (i : Inside). Legal (i.history ++ render_of actor f ∷ [])) (sym c.self.view_is) c.requires.legal in
     let place : c.entries-place.result + 1 ≡ length old.history + 1 = ap (λ n. n + 1) (c.entries-place.ensures.count ∙ ap (λ (i : Inside). length i.history) (sym c.self.view_is)) in
     let stands : IsStanding old = subst IsStanding (sym c.self.view_is) c.requires.stands in
-    let load = c.in_ok-load.field-0.load in
+    let load : Load = record { reach = c.in_ok-reach.field-0.reach; scene = Some c.in_ok-reach.field-0.scene } in
     let t = c.in_ok-takeoff.takeoff in
     let counted_old : CountsItsObjects old.objects.stored = subst CountsItsObjects c.store-store.ensures c.counts_its_objects.ensures in
     let takes : IsTakeoff (scene_objects old.objects.stored.state) (length old.history + 1) f load t =
     subst (λ n. IsTakeoff (scene_objects old.objects.stored.state) n f load t) place (subst (λ (s : Stored). IsTakeoff (scene_objects s.state) (c.entries-place.result + 1) f load t) c.store-store.ensures c.in_ok-takeoff.ensures) in
     let once : HasEachOnce (visited (walk (scene_objects old.objects.stored.state) f)) load.reach.items =
-    subst (λ (s : Stored). HasEachOnce (visited (walk (scene_objects s.state) f)) load.reach.items) c.store-store.ensures c.in_ok-load.ensures.reach in
-    let shows : scene_of_load load ≡ scene (scene_objects old.objects.stored.state) f = c.in_ok-load.ensures.scene ∙ ap (λ (s : Stored). scene (scene_objects s.state) f) c.store-store.ensures in
-    let within = c.in_ok-load.ensures.within in
+    subst (λ (s : Stored). HasEachOnce (visited (walk (scene_objects s.state) f)) load.reach.items) c.store-store.ensures c.in_ok-reach.ensures.reach in
+    let shown : scene_prepared c.in_ok-reach.field-0.scene ≡ scene (scene_objects old.objects.stored.state) f = c.in_ok-reach.ensures.scene ∙ ap (λ (s : Stored). scene (scene_objects s.state) f) c.store-store.ensures in
+    let shows : scene_of_load load ≡ Some (scene (scene_objects old.objects.stored.state) f) = ap Some shown in
+    let within : IsSceneWithin (scene (scene_objects old.objects.stored.state) f) = subst IsSceneWithin shown c.in_ok-reach.ensures.within in
     ap (flight_of old.flights.future) (ap (λ (x : Cargo Load). x.frame) takes.cargo) ∙ landed old.history old.flights.future actor f legal p.flown stands.frames.stands
 
 pub begin_kept-requires-clause-unmapped : goal.begin_kept-requires-clause-unmapped
@@ -84,15 +86,16 @@ begin_kept-requires-clause-unmapped c =
     let legal : Legal (old.history ++ render_of actor f ∷ []) = subst (λ (i : Inside). Legal (i.history ++ render_of actor f ∷ [])) (sym c.self.view_is) c.requires.legal in
     let place : c.entries-place.result + 1 ≡ length old.history + 1 = ap (λ n. n + 1) (c.entries-place.ensures.count ∙ ap (λ (i : Inside). length i.history) (sym c.self.view_is)) in
     let stands : IsStanding old = subst IsStanding (sym c.self.view_is) c.requires.stands in
-    let load = c.in_ok-load.field-0.load in
+    let load : Load = record { reach = c.in_ok-reach.field-0.reach; scene = Some c.in_ok-reach.field-0.scene } in
     let t = c.in_ok-takeoff.takeoff in
     let counted_old : CountsItsObjects old.objects.stored = subst CountsItsObjects c.store-store.ensures c.counts_its_objects.ensures in
     let takes : IsTakeoff (scene_objects old.objects.stored.state) (length old.history + 1) f load t =
     subst (λ n. IsTakeoff (scene_objects old.objects.stored.state) n f load t) place (subst (λ (s : Stored). IsTakeoff (scene_objects s.state) (c.entries-place.result + 1) f load t) c.store-store.ensures c.in_ok-takeoff.ensures) in
     let once : HasEachOnce (visited (walk (scene_objects old.objects.stored.state) f)) load.reach.items =
-    subst (λ (s : Stored). HasEachOnce (visited (walk (scene_objects s.state) f)) load.reach.items) c.store-store.ensures c.in_ok-load.ensures.reach in
-    let shows : scene_of_load load ≡ scene (scene_objects old.objects.stored.state) f = c.in_ok-load.ensures.scene ∙ ap (λ (s : Stored). scene (scene_objects s.state) f) c.store-store.ensures in
-    let within = c.in_ok-load.ensures.within in
+    subst (λ (s : Stored). HasEachOnce (visited (walk (scene_objects s.state) f)) load.reach.items) c.store-store.ensures c.in_ok-reach.ensures.reach in
+    let shown : scene_prepared c.in_ok-reach.field-0.scene ≡ scene (scene_objects old.objects.stored.state) f = c.in_ok-reach.ensures.scene ∙ ap (λ (s : Stored). scene (scene_objects s.state) f) c.store-store.ensures in
+    let shows : scene_of_load load ≡ Some (scene (scene_objects old.objects.stored.state) f) = ap Some shown in
+    let within : IsSceneWithin (scene (scene_objects old.objects.stored.state) f) = subst IsSceneWithin shown c.in_ok-reach.ensures.within in
     ap (is_mapped old.flights.future) (ap (λ (x : Cargo Load). x.frame) takes.cargo) ∙ unmapped old.history old.flights.future actor f legal p.flown stands.frames.lent
 
 pub begin_kept-requires-clause-later : goal.begin_kept-requires-clause-later
@@ -104,15 +107,16 @@ begin_kept-requires-clause-later c =
     let legal : Legal (old.history ++ render_of actor f ∷ []) = subst (λ (i : Inside). Legal (i.history ++ render_of actor f ∷ [])) (sym c.self.view_is) c.requires.legal in
     let place : c.entries-place.result + 1 ≡ length old.history + 1 = ap (λ n. n + 1) (c.entries-place.ensures.count ∙ ap (λ (i : Inside). length i.history) (sym c.self.view_is)) in
     let stands : IsStanding old = subst IsStanding (sym c.self.view_is) c.requires.stands in
-    let load = c.in_ok-load.field-0.load in
+    let load : Load = record { reach = c.in_ok-reach.field-0.reach; scene = Some c.in_ok-reach.field-0.scene } in
     let t = c.in_ok-takeoff.takeoff in
     let counted_old : CountsItsObjects old.objects.stored = subst CountsItsObjects c.store-store.ensures c.counts_its_objects.ensures in
     let takes : IsTakeoff (scene_objects old.objects.stored.state) (length old.history + 1) f load t =
     subst (λ n. IsTakeoff (scene_objects old.objects.stored.state) n f load t) place (subst (λ (s : Stored). IsTakeoff (scene_objects s.state) (c.entries-place.result + 1) f load t) c.store-store.ensures c.in_ok-takeoff.ensures) in
     let once : HasEachOnce (visited (walk (scene_objects old.objects.stored.state) f)) load.reach.items =
-    subst (λ (s : Stored). HasEachOnce (visited (walk (scene_objects s.state) f)) load.reach.items) c.store-store.ensures c.in_ok-load.ensures.reach in
-    let shows : scene_of_load load ≡ scene (scene_objects old.objects.stored.state) f = c.in_ok-load.ensures.scene ∙ ap (λ (s : Stored). scene (scene_objects s.state) f) c.store-store.ensures in
-    let within = c.in_ok-load.ensures.within in
+    subst (λ (s : Stored). HasEachOnce (visited (walk (scene_objects s.state) f)) load.reach.items) c.store-store.ensures c.in_ok-reach.ensures.reach in
+    let shown : scene_prepared c.in_ok-reach.field-0.scene ≡ scene (scene_objects old.objects.stored.state) f = c.in_ok-reach.ensures.scene ∙ ap (λ (s : Stored). scene (scene_objects s.state) f) c.store-store.ensures in
+    let shows : scene_of_load load ≡ Some (scene (scene_objects old.objects.stored.state) f) = ap Some shown in
+    let within : IsSceneWithin (scene (scene_objects old.objects.stored.state) f) = subst IsSceneWithin shown c.in_ok-reach.ensures.within in
     subst (IsLater old.flights.future) (sym (ap (λ (x : Cargo Load). x.ticket) takes.cargo)) (later old.history old.flights.future actor f legal p.flown stands.frames.stands)
 
 pub show-requires : goal.show-requires
@@ -134,15 +138,16 @@ hold_reach-requires-clause-flies c =
     let p = c.self.invariant in
     let legal : Legal (old.history ++ render_of actor f ∷ []) = subst (λ (i : Inside). Legal (i.history ++ render_of actor f ∷ [])) (sym c.self.view_is) c.requires.legal in
     let place : c.entries-place.result + 1 ≡ length old.history + 1 = ap (λ n. n + 1) (c.entries-place.ensures.count ∙ ap (λ (i : Inside). length i.history) (sym c.self.view_is)) in
-    let load = c.in_ok-load.field-0.load in
+    let load : Load = record { reach = c.in_ok-reach.field-0.reach; scene = Some c.in_ok-reach.field-0.scene } in
     let t = c.in_ok-takeoff.takeoff in
     let counted_old : CountsItsObjects old.objects.stored = subst CountsItsObjects c.store-store.ensures c.counts_its_objects.ensures in
     let takes : IsTakeoff (scene_objects old.objects.stored.state) (length old.history + 1) f load t =
     subst (λ n. IsTakeoff (scene_objects old.objects.stored.state) n f load t) place (subst (λ (s : Stored). IsTakeoff (scene_objects s.state) (c.entries-place.result + 1) f load t) c.store-store.ensures c.in_ok-takeoff.ensures) in
     let once : HasEachOnce (visited (walk (scene_objects old.objects.stored.state) f)) load.reach.items =
-    subst (λ (s : Stored). HasEachOnce (visited (walk (scene_objects s.state) f)) load.reach.items) c.store-store.ensures c.in_ok-load.ensures.reach in
-    let shows : scene_of_load load ≡ scene (scene_objects old.objects.stored.state) f = c.in_ok-load.ensures.scene ∙ ap (λ (s : Stored). scene (scene_objects s.state) f) c.store-store.ensures in
-    let within = c.in_ok-load.ensures.within in
+    subst (λ (s : Stored). HasEachOnce (visited (walk (scene_objects s.state) f)) load.reach.items) c.store-store.ensures c.in_ok-reach.ensures.reach in
+    let shown : scene_prepared c.in_ok-reach.field-0.scene ≡ scene (scene_objects old.objects.stored.state) f = c.in_ok-reach.ensures.scene ∙ ap (λ (s : Stored). scene (scene_objects s.state) f) c.store-store.ensures in
+    let shows : scene_of_load load ≡ Some (scene (scene_objects old.objects.stored.state) f) = ap Some shown in
+    let within : IsSceneWithin (scene (scene_objects old.objects.stored.state) f) = subst IsSceneWithin shown c.in_ok-reach.ensures.within in
     let cargo : c.begin_kept.new.flights.cargo ≡ old.flights.cargo ++ t.cargo ∷ [] = ap (λ (b : Books Load). b.cargo) c.in_ok-begin_kept.ensures.begun in
     let few : All (λ h. number_at old.objects.stored.holds h + length load.reach.items ≤ 2 ^ 40) load.reach.items =
     subst (λ (s : Stored). All (λ h. number_at s.holds h + length load.reach.items ≤ 2 ^ 40) load.reach.items) c.store-store.ensures
@@ -158,15 +163,16 @@ hold_reach-requires-clause-there c =
     let p = c.self.invariant in
     let legal : Legal (old.history ++ render_of actor f ∷ []) = subst (λ (i : Inside). Legal (i.history ++ render_of actor f ∷ [])) (sym c.self.view_is) c.requires.legal in
     let place : c.entries-place.result + 1 ≡ length old.history + 1 = ap (λ n. n + 1) (c.entries-place.ensures.count ∙ ap (λ (i : Inside). length i.history) (sym c.self.view_is)) in
-    let load = c.in_ok-load.field-0.load in
+    let load : Load = record { reach = c.in_ok-reach.field-0.reach; scene = Some c.in_ok-reach.field-0.scene } in
     let t = c.in_ok-takeoff.takeoff in
     let counted_old : CountsItsObjects old.objects.stored = subst CountsItsObjects c.store-store.ensures c.counts_its_objects.ensures in
     let takes : IsTakeoff (scene_objects old.objects.stored.state) (length old.history + 1) f load t =
     subst (λ n. IsTakeoff (scene_objects old.objects.stored.state) n f load t) place (subst (λ (s : Stored). IsTakeoff (scene_objects s.state) (c.entries-place.result + 1) f load t) c.store-store.ensures c.in_ok-takeoff.ensures) in
     let once : HasEachOnce (visited (walk (scene_objects old.objects.stored.state) f)) load.reach.items =
-    subst (λ (s : Stored). HasEachOnce (visited (walk (scene_objects s.state) f)) load.reach.items) c.store-store.ensures c.in_ok-load.ensures.reach in
-    let shows : scene_of_load load ≡ scene (scene_objects old.objects.stored.state) f = c.in_ok-load.ensures.scene ∙ ap (λ (s : Stored). scene (scene_objects s.state) f) c.store-store.ensures in
-    let within = c.in_ok-load.ensures.within in
+    subst (λ (s : Stored). HasEachOnce (visited (walk (scene_objects s.state) f)) load.reach.items) c.store-store.ensures c.in_ok-reach.ensures.reach in
+    let shown : scene_prepared c.in_ok-reach.field-0.scene ≡ scene (scene_objects old.objects.stored.state) f = c.in_ok-reach.ensures.scene ∙ ap (λ (s : Stored). scene (scene_objects s.state) f) c.store-store.ensures in
+    let shows : scene_of_load load ≡ Some (scene (scene_objects old.objects.stored.state) f) = ap Some shown in
+    let within : IsSceneWithin (scene (scene_objects old.objects.stored.state) f) = subst IsSceneWithin shown c.in_ok-reach.ensures.within in
     let cargo : c.begin_kept.new.flights.cargo ≡ old.flights.cargo ++ t.cargo ∷ [] = ap (λ (b : Books Load). b.cargo) c.in_ok-begin_kept.ensures.begun in
     let few : All (λ h. number_at old.objects.stored.holds h + length load.reach.items ≤ 2 ^ 40) load.reach.items =
     subst (λ (s : Stored). All (λ h. number_at s.holds h + length load.reach.items ≤ 2 ^ 40) load.reach.items) c.store-store.ensures
@@ -182,15 +188,16 @@ hold_reach-requires-clause-few c =
     let p = c.self.invariant in
     let legal : Legal (old.history ++ render_of actor f ∷ []) = subst (λ (i : Inside). Legal (i.history ++ render_of actor f ∷ [])) (sym c.self.view_is) c.requires.legal in
     let place : c.entries-place.result + 1 ≡ length old.history + 1 = ap (λ n. n + 1) (c.entries-place.ensures.count ∙ ap (λ (i : Inside). length i.history) (sym c.self.view_is)) in
-    let load = c.in_ok-load.field-0.load in
+    let load : Load = record { reach = c.in_ok-reach.field-0.reach; scene = Some c.in_ok-reach.field-0.scene } in
     let t = c.in_ok-takeoff.takeoff in
     let counted_old : CountsItsObjects old.objects.stored = subst CountsItsObjects c.store-store.ensures c.counts_its_objects.ensures in
     let takes : IsTakeoff (scene_objects old.objects.stored.state) (length old.history + 1) f load t =
     subst (λ n. IsTakeoff (scene_objects old.objects.stored.state) n f load t) place (subst (λ (s : Stored). IsTakeoff (scene_objects s.state) (c.entries-place.result + 1) f load t) c.store-store.ensures c.in_ok-takeoff.ensures) in
     let once : HasEachOnce (visited (walk (scene_objects old.objects.stored.state) f)) load.reach.items =
-    subst (λ (s : Stored). HasEachOnce (visited (walk (scene_objects s.state) f)) load.reach.items) c.store-store.ensures c.in_ok-load.ensures.reach in
-    let shows : scene_of_load load ≡ scene (scene_objects old.objects.stored.state) f = c.in_ok-load.ensures.scene ∙ ap (λ (s : Stored). scene (scene_objects s.state) f) c.store-store.ensures in
-    let within = c.in_ok-load.ensures.within in
+    subst (λ (s : Stored). HasEachOnce (visited (walk (scene_objects s.state) f)) load.reach.items) c.store-store.ensures c.in_ok-reach.ensures.reach in
+    let shown : scene_prepared c.in_ok-reach.field-0.scene ≡ scene (scene_objects old.objects.stored.state) f = c.in_ok-reach.ensures.scene ∙ ap (λ (s : Stored). scene (scene_objects s.state) f) c.store-store.ensures in
+    let shows : scene_of_load load ≡ Some (scene (scene_objects old.objects.stored.state) f) = ap Some shown in
+    let within : IsSceneWithin (scene (scene_objects old.objects.stored.state) f) = subst IsSceneWithin shown c.in_ok-reach.ensures.within in
     let cargo : c.begin_kept.new.flights.cargo ≡ old.flights.cargo ++ t.cargo ∷ [] = ap (λ (b : Books Load). b.cargo) c.in_ok-begin_kept.ensures.begun in
     let few : All (λ h. number_at old.objects.stored.holds h + length load.reach.items ≤ 2 ^ 40) load.reach.items =
     subst (λ (s : Stored). All (λ h. number_at s.holds h + length load.reach.items ≤ 2 ^ 40) load.reach.items) c.store-store.ensures
@@ -215,15 +222,16 @@ bury-requires-clause-ranked c =
     let p = c.self.invariant in
     let legal : Legal (old.history ++ render_of actor f ∷ []) = subst (λ (i : Inside). Legal (i.history ++ render_of actor f ∷ [])) (sym c.self.view_is) c.requires.legal in
     let place : c.entries-place.result + 1 ≡ length old.history + 1 = ap (λ n. n + 1) (c.entries-place.ensures.count ∙ ap (λ (i : Inside). length i.history) (sym c.self.view_is)) in
-    let load = c.in_ok-load.field-0.load in
+    let load : Load = record { reach = c.in_ok-reach.field-0.reach; scene = Some c.in_ok-reach.field-0.scene } in
     let t = c.in_ok-takeoff.takeoff in
     let counted_old : CountsItsObjects old.objects.stored = subst CountsItsObjects c.store-store.ensures c.counts_its_objects.ensures in
     let takes : IsTakeoff (scene_objects old.objects.stored.state) (length old.history + 1) f load t =
     subst (λ n. IsTakeoff (scene_objects old.objects.stored.state) n f load t) place (subst (λ (s : Stored). IsTakeoff (scene_objects s.state) (c.entries-place.result + 1) f load t) c.store-store.ensures c.in_ok-takeoff.ensures) in
     let once : HasEachOnce (visited (walk (scene_objects old.objects.stored.state) f)) load.reach.items =
-    subst (λ (s : Stored). HasEachOnce (visited (walk (scene_objects s.state) f)) load.reach.items) c.store-store.ensures c.in_ok-load.ensures.reach in
-    let shows : scene_of_load load ≡ scene (scene_objects old.objects.stored.state) f = c.in_ok-load.ensures.scene ∙ ap (λ (s : Stored). scene (scene_objects s.state) f) c.store-store.ensures in
-    let within = c.in_ok-load.ensures.within in
+    subst (λ (s : Stored). HasEachOnce (visited (walk (scene_objects s.state) f)) load.reach.items) c.store-store.ensures c.in_ok-reach.ensures.reach in
+    let shown : scene_prepared c.in_ok-reach.field-0.scene ≡ scene (scene_objects old.objects.stored.state) f = c.in_ok-reach.ensures.scene ∙ ap (λ (s : Stored). scene (scene_objects s.state) f) c.store-store.ensures in
+    let shows : scene_of_load load ≡ Some (scene (scene_objects old.objects.stored.state) f) = ap Some shown in
+    let within : IsSceneWithin (scene (scene_objects old.objects.stored.state) f) = subst IsSceneWithin shown c.in_ok-reach.ensures.within in
     let cargo : c.begin_kept.new.flights.cargo ≡ old.flights.cargo ++ t.cargo ∷ [] = ap (λ (b : Books Load). b.cargo) c.in_ok-begin_kept.ensures.begun in
     let holds : c.hold_reach.new.objects ≡ record old.objects { stored = moved_now old actor f p legal counted_old load t takes once shows within } =
     held_now old actor f p legal counted_old load t takes once shows within (c.entries-place.result + 1) c.begin_kept.new.flights.cargo c.show.new.self c.hold_reach.new.objects place cargo c.show.ensures c.hold_reach.ensures in
@@ -238,15 +246,16 @@ bury-requires-clause-none c =
     let p = c.self.invariant in
     let legal : Legal (old.history ++ render_of actor f ∷ []) = subst (λ (i : Inside). Legal (i.history ++ render_of actor f ∷ [])) (sym c.self.view_is) c.requires.legal in
     let place : c.entries-place.result + 1 ≡ length old.history + 1 = ap (λ n. n + 1) (c.entries-place.ensures.count ∙ ap (λ (i : Inside). length i.history) (sym c.self.view_is)) in
-    let load = c.in_ok-load.field-0.load in
+    let load : Load = record { reach = c.in_ok-reach.field-0.reach; scene = Some c.in_ok-reach.field-0.scene } in
     let t = c.in_ok-takeoff.takeoff in
     let counted_old : CountsItsObjects old.objects.stored = subst CountsItsObjects c.store-store.ensures c.counts_its_objects.ensures in
     let takes : IsTakeoff (scene_objects old.objects.stored.state) (length old.history + 1) f load t =
     subst (λ n. IsTakeoff (scene_objects old.objects.stored.state) n f load t) place (subst (λ (s : Stored). IsTakeoff (scene_objects s.state) (c.entries-place.result + 1) f load t) c.store-store.ensures c.in_ok-takeoff.ensures) in
     let once : HasEachOnce (visited (walk (scene_objects old.objects.stored.state) f)) load.reach.items =
-    subst (λ (s : Stored). HasEachOnce (visited (walk (scene_objects s.state) f)) load.reach.items) c.store-store.ensures c.in_ok-load.ensures.reach in
-    let shows : scene_of_load load ≡ scene (scene_objects old.objects.stored.state) f = c.in_ok-load.ensures.scene ∙ ap (λ (s : Stored). scene (scene_objects s.state) f) c.store-store.ensures in
-    let within = c.in_ok-load.ensures.within in
+    subst (λ (s : Stored). HasEachOnce (visited (walk (scene_objects s.state) f)) load.reach.items) c.store-store.ensures c.in_ok-reach.ensures.reach in
+    let shown : scene_prepared c.in_ok-reach.field-0.scene ≡ scene (scene_objects old.objects.stored.state) f = c.in_ok-reach.ensures.scene ∙ ap (λ (s : Stored). scene (scene_objects s.state) f) c.store-store.ensures in
+    let shows : scene_of_load load ≡ Some (scene (scene_objects old.objects.stored.state) f) = ap Some shown in
+    let within : IsSceneWithin (scene (scene_objects old.objects.stored.state) f) = subst IsSceneWithin shown c.in_ok-reach.ensures.within in
     let cargo : c.begin_kept.new.flights.cargo ≡ old.flights.cargo ++ t.cargo ∷ [] = ap (λ (b : Books Load). b.cargo) c.in_ok-begin_kept.ensures.begun in
     let holds : c.hold_reach.new.objects ≡ record old.objects { stored = moved_now old actor f p legal counted_old load t takes once shows within } =
     held_now old actor f p legal counted_old load t takes once shows within (c.entries-place.result + 1) c.begin_kept.new.flights.cargo c.show.new.self c.hold_reach.new.objects place cargo c.show.ensures c.hold_reach.ensures in
@@ -262,21 +271,22 @@ invariant_of-self-2 c =
     let legal : Legal (old.history ++ render_of actor f ∷ []) = subst (λ (i : Inside). Legal (i.history ++ render_of actor f ∷ [])) (sym c.self.view_is) c.requires.legal in
     let place : c.entries-place.result + 1 ≡ length old.history + 1 = ap (λ n. n + 1) (c.entries-place.ensures.count ∙ ap (λ (i : Inside). length i.history) (sym c.self.view_is)) in
     let stands : IsStanding old = subst IsStanding (sym c.self.view_is) c.requires.stands in
-    let load = c.in_ok-load.field-0.load in
+    let load : Load = record { reach = c.in_ok-reach.field-0.reach; scene = Some c.in_ok-reach.field-0.scene } in
     let t = c.in_ok-takeoff.takeoff in
     let counted_old : CountsItsObjects old.objects.stored = subst CountsItsObjects c.store-store.ensures c.counts_its_objects.ensures in
     let takes : IsTakeoff (scene_objects old.objects.stored.state) (length old.history + 1) f load t =
     subst (λ n. IsTakeoff (scene_objects old.objects.stored.state) n f load t) place (subst (λ (s : Stored). IsTakeoff (scene_objects s.state) (c.entries-place.result + 1) f load t) c.store-store.ensures c.in_ok-takeoff.ensures) in
     let once : HasEachOnce (visited (walk (scene_objects old.objects.stored.state) f)) load.reach.items =
-    subst (λ (s : Stored). HasEachOnce (visited (walk (scene_objects s.state) f)) load.reach.items) c.store-store.ensures c.in_ok-load.ensures.reach in
-    let shows : scene_of_load load ≡ scene (scene_objects old.objects.stored.state) f = c.in_ok-load.ensures.scene ∙ ap (λ (s : Stored). scene (scene_objects s.state) f) c.store-store.ensures in
-    let within = c.in_ok-load.ensures.within in
+    subst (λ (s : Stored). HasEachOnce (visited (walk (scene_objects s.state) f)) load.reach.items) c.store-store.ensures c.in_ok-reach.ensures.reach in
+    let shown : scene_prepared c.in_ok-reach.field-0.scene ≡ scene (scene_objects old.objects.stored.state) f = c.in_ok-reach.ensures.scene ∙ ap (λ (s : Stored). scene (scene_objects s.state) f) c.store-store.ensures in
+    let shows : scene_of_load load ≡ Some (scene (scene_objects old.objects.stored.state) f) = ap Some shown in
+    let within : IsSceneWithin (scene (scene_objects old.objects.stored.state) f) = subst IsSceneWithin shown c.in_ok-reach.ensures.within in
     let cargo : c.begin_kept.new.flights.cargo ≡ old.flights.cargo ++ t.cargo ∷ [] = ap (λ (b : Books Load). b.cargo) c.in_ok-begin_kept.ensures.begun in
     let holds : c.hold_reach.new.objects ≡ record old.objects { stored = moved_now old actor f p legal counted_old load t takes once shows within } =
     held_now old actor f p legal counted_old load t takes once shows within (c.entries-place.result + 1) c.begin_kept.new.flights.cargo c.show.new.self c.hold_reach.new.objects place cargo c.show.ensures c.hold_reach.ensures in
     let moves : c.hold_reach.new.objects.stored ≡ moved_now old actor f p legal counted_old load t takes once shows within = ap (λ (o : Objects). o.stored) holds in
-    let wanted : IsWanted (scene_objects old.objects.stored.state) old.worlds f c.in_ok-load.field-0.build = subst (λ (s : Stored). IsWanted (scene_objects s.state) old.worlds f c.in_ok-load.field-0.build) c.store-store.ensures c.in_ok-load.ensures.build in
-    let wanted_after : IsWanted (scene_objects (after old.history).state) old.worlds f c.in_ok-load.field-0.build = subst (λ (s : State). IsWanted (scene_objects s) old.worlds f c.in_ok-load.field-0.build) p.rest.state wanted in
+    let wanted : IsWanted (scene_objects old.objects.stored.state) old.worlds f c.in_ok-reach.field-0.build = subst (λ (s : Stored). IsWanted (scene_objects s.state) old.worlds f c.in_ok-reach.field-0.build) c.store-store.ensures c.in_ok-reach.ensures.build in
+    let wanted_after : IsWanted (scene_objects (after old.history).state) old.worlds f c.in_ok-reach.field-0.build = subst (λ (s : State). IsWanted (scene_objects s) old.worlds f c.in_ok-reach.field-0.build) p.rest.state wanted in
     let exactly : c.is_some-built.result ≡ wants_build (scene_objects old.objects.stored.state) old.worlds f = c.is_some-built.ensures ∙ wanted.exactly in
     let counts : old.builds + c.from.result ≡ old.builds + cond c.is_some-built.result 1 0 = ap (λ n. old.builds + n) (c.from.ensures ∙ as_number c.is_some-built.result) in
     let begun = c.in_ok-begin_kept.ensures.begun in
@@ -303,21 +313,22 @@ returns-clause-entered c =
     let p = c.self.invariant in
     let legal : Legal (old.history ++ render_of actor f ∷ []) = subst (λ (i : Inside). Legal (i.history ++ render_of actor f ∷ [])) (sym c.self.view_is) c.requires.legal in
     let place : c.entries-place.result + 1 ≡ length old.history + 1 = ap (λ n. n + 1) (c.entries-place.ensures.count ∙ ap (λ (i : Inside). length i.history) (sym c.self.view_is)) in
-    let load = c.in_ok-load.field-0.load in
+    let load : Load = record { reach = c.in_ok-reach.field-0.reach; scene = Some c.in_ok-reach.field-0.scene } in
     let t = c.in_ok-takeoff.takeoff in
     let counted_old : CountsItsObjects old.objects.stored = subst CountsItsObjects c.store-store.ensures c.counts_its_objects.ensures in
     let takes : IsTakeoff (scene_objects old.objects.stored.state) (length old.history + 1) f load t =
     subst (λ n. IsTakeoff (scene_objects old.objects.stored.state) n f load t) place (subst (λ (s : Stored). IsTakeoff (scene_objects s.state) (c.entries-place.result + 1) f load t) c.store-store.ensures c.in_ok-takeoff.ensures) in
     let once : HasEachOnce (visited (walk (scene_objects old.objects.stored.state) f)) load.reach.items =
-    subst (λ (s : Stored). HasEachOnce (visited (walk (scene_objects s.state) f)) load.reach.items) c.store-store.ensures c.in_ok-load.ensures.reach in
-    let shows : scene_of_load load ≡ scene (scene_objects old.objects.stored.state) f = c.in_ok-load.ensures.scene ∙ ap (λ (s : Stored). scene (scene_objects s.state) f) c.store-store.ensures in
-    let within = c.in_ok-load.ensures.within in
+    subst (λ (s : Stored). HasEachOnce (visited (walk (scene_objects s.state) f)) load.reach.items) c.store-store.ensures c.in_ok-reach.ensures.reach in
+    let shown : scene_prepared c.in_ok-reach.field-0.scene ≡ scene (scene_objects old.objects.stored.state) f = c.in_ok-reach.ensures.scene ∙ ap (λ (s : Stored). scene (scene_objects s.state) f) c.store-store.ensures in
+    let shows : scene_of_load load ≡ Some (scene (scene_objects old.objects.stored.state) f) = ap Some shown in
+    let within : IsSceneWithin (scene (scene_objects old.objects.stored.state) f) = subst IsSceneWithin shown c.in_ok-reach.ensures.within in
     let cargo : c.begin_kept.new.flights.cargo ≡ old.flights.cargo ++ t.cargo ∷ [] = ap (λ (b : Books Load). b.cargo) c.in_ok-begin_kept.ensures.begun in
     let holds : c.hold_reach.new.objects ≡ record old.objects { stored = moved_now old actor f p legal counted_old load t takes once shows within } =
     held_now old actor f p legal counted_old load t takes once shows within (c.entries-place.result + 1) c.begin_kept.new.flights.cargo c.show.new.self c.hold_reach.new.objects place cargo c.show.ensures c.hold_reach.ensures in
     let moves : c.hold_reach.new.objects.stored ≡ moved_now old actor f p legal counted_old load t takes once shows within = ap (λ (o : Objects). o.stored) holds in
-    let wanted : IsWanted (scene_objects old.objects.stored.state) old.worlds f c.in_ok-load.field-0.build = subst (λ (s : Stored). IsWanted (scene_objects s.state) old.worlds f c.in_ok-load.field-0.build) c.store-store.ensures c.in_ok-load.ensures.build in
-    let wanted_after : IsWanted (scene_objects (after old.history).state) old.worlds f c.in_ok-load.field-0.build = subst (λ (s : State). IsWanted (scene_objects s) old.worlds f c.in_ok-load.field-0.build) p.rest.state wanted in
+    let wanted : IsWanted (scene_objects old.objects.stored.state) old.worlds f c.in_ok-reach.field-0.build = subst (λ (s : Stored). IsWanted (scene_objects s.state) old.worlds f c.in_ok-reach.field-0.build) c.store-store.ensures c.in_ok-reach.ensures.build in
+    let wanted_after : IsWanted (scene_objects (after old.history).state) old.worlds f c.in_ok-reach.field-0.build = subst (λ (s : State). IsWanted (scene_objects s) old.worlds f c.in_ok-reach.field-0.build) p.rest.state wanted in
     let exactly : c.is_some-built.result ≡ wants_build (scene_objects old.objects.stored.state) old.worlds f = c.is_some-built.ensures ∙ wanted.exactly in
     let counts : old.builds + c.from.result ≡ old.builds + cond c.is_some-built.result 1 0 = ap (λ n. old.builds + n) (c.from.ensures ∙ as_number c.is_some-built.result) in
     let begun = c.in_ok-begin_kept.ensures.begun in
@@ -345,21 +356,22 @@ returns-clause-begun c =
     let p = c.self.invariant in
     let legal : Legal (old.history ++ render_of actor f ∷ []) = subst (λ (i : Inside). Legal (i.history ++ render_of actor f ∷ [])) (sym c.self.view_is) c.requires.legal in
     let place : c.entries-place.result + 1 ≡ length old.history + 1 = ap (λ n. n + 1) (c.entries-place.ensures.count ∙ ap (λ (i : Inside). length i.history) (sym c.self.view_is)) in
-    let load = c.in_ok-load.field-0.load in
+    let load : Load = record { reach = c.in_ok-reach.field-0.reach; scene = Some c.in_ok-reach.field-0.scene } in
     let t = c.in_ok-takeoff.takeoff in
     let counted_old : CountsItsObjects old.objects.stored = subst CountsItsObjects c.store-store.ensures c.counts_its_objects.ensures in
     let takes : IsTakeoff (scene_objects old.objects.stored.state) (length old.history + 1) f load t =
     subst (λ n. IsTakeoff (scene_objects old.objects.stored.state) n f load t) place (subst (λ (s : Stored). IsTakeoff (scene_objects s.state) (c.entries-place.result + 1) f load t) c.store-store.ensures c.in_ok-takeoff.ensures) in
     let once : HasEachOnce (visited (walk (scene_objects old.objects.stored.state) f)) load.reach.items =
-    subst (λ (s : Stored). HasEachOnce (visited (walk (scene_objects s.state) f)) load.reach.items) c.store-store.ensures c.in_ok-load.ensures.reach in
-    let shows : scene_of_load load ≡ scene (scene_objects old.objects.stored.state) f = c.in_ok-load.ensures.scene ∙ ap (λ (s : Stored). scene (scene_objects s.state) f) c.store-store.ensures in
-    let within = c.in_ok-load.ensures.within in
+    subst (λ (s : Stored). HasEachOnce (visited (walk (scene_objects s.state) f)) load.reach.items) c.store-store.ensures c.in_ok-reach.ensures.reach in
+    let shown : scene_prepared c.in_ok-reach.field-0.scene ≡ scene (scene_objects old.objects.stored.state) f = c.in_ok-reach.ensures.scene ∙ ap (λ (s : Stored). scene (scene_objects s.state) f) c.store-store.ensures in
+    let shows : scene_of_load load ≡ Some (scene (scene_objects old.objects.stored.state) f) = ap Some shown in
+    let within : IsSceneWithin (scene (scene_objects old.objects.stored.state) f) = subst IsSceneWithin shown c.in_ok-reach.ensures.within in
     let cargo : c.begin_kept.new.flights.cargo ≡ old.flights.cargo ++ t.cargo ∷ [] = ap (λ (b : Books Load). b.cargo) c.in_ok-begin_kept.ensures.begun in
     let holds : c.hold_reach.new.objects ≡ record old.objects { stored = moved_now old actor f p legal counted_old load t takes once shows within } =
     held_now old actor f p legal counted_old load t takes once shows within (c.entries-place.result + 1) c.begin_kept.new.flights.cargo c.show.new.self c.hold_reach.new.objects place cargo c.show.ensures c.hold_reach.ensures in
     let moves : c.hold_reach.new.objects.stored ≡ moved_now old actor f p legal counted_old load t takes once shows within = ap (λ (o : Objects). o.stored) holds in
-    let wanted : IsWanted (scene_objects old.objects.stored.state) old.worlds f c.in_ok-load.field-0.build = subst (λ (s : Stored). IsWanted (scene_objects s.state) old.worlds f c.in_ok-load.field-0.build) c.store-store.ensures c.in_ok-load.ensures.build in
-    let wanted_after : IsWanted (scene_objects (after old.history).state) old.worlds f c.in_ok-load.field-0.build = subst (λ (s : State). IsWanted (scene_objects s) old.worlds f c.in_ok-load.field-0.build) p.rest.state wanted in
+    let wanted : IsWanted (scene_objects old.objects.stored.state) old.worlds f c.in_ok-reach.field-0.build = subst (λ (s : Stored). IsWanted (scene_objects s.state) old.worlds f c.in_ok-reach.field-0.build) c.store-store.ensures c.in_ok-reach.ensures.build in
+    let wanted_after : IsWanted (scene_objects (after old.history).state) old.worlds f c.in_ok-reach.field-0.build = subst (λ (s : State). IsWanted (scene_objects s) old.worlds f c.in_ok-reach.field-0.build) p.rest.state wanted in
     let exactly : c.is_some-built.result ≡ wants_build (scene_objects old.objects.stored.state) old.worlds f = c.is_some-built.ensures ∙ wanted.exactly in
     let counts : old.builds + c.from.result ≡ old.builds + cond c.is_some-built.result 1 0 = ap (λ n. old.builds + n) (c.from.ensures ∙ as_number c.is_some-built.result) in
     let begun = c.in_ok-begin_kept.ensures.begun in
@@ -387,21 +399,22 @@ returns-clause-stands c =
     let legal : Legal (old.history ++ render_of actor f ∷ []) = subst (λ (i : Inside). Legal (i.history ++ render_of actor f ∷ [])) (sym c.self.view_is) c.requires.legal in
     let place : c.entries-place.result + 1 ≡ length old.history + 1 = ap (λ n. n + 1) (c.entries-place.ensures.count ∙ ap (λ (i : Inside). length i.history) (sym c.self.view_is)) in
     let stands : IsStanding old = subst IsStanding (sym c.self.view_is) c.requires.stands in
-    let load = c.in_ok-load.field-0.load in
+    let load : Load = record { reach = c.in_ok-reach.field-0.reach; scene = Some c.in_ok-reach.field-0.scene } in
     let t = c.in_ok-takeoff.takeoff in
     let counted_old : CountsItsObjects old.objects.stored = subst CountsItsObjects c.store-store.ensures c.counts_its_objects.ensures in
     let takes : IsTakeoff (scene_objects old.objects.stored.state) (length old.history + 1) f load t =
     subst (λ n. IsTakeoff (scene_objects old.objects.stored.state) n f load t) place (subst (λ (s : Stored). IsTakeoff (scene_objects s.state) (c.entries-place.result + 1) f load t) c.store-store.ensures c.in_ok-takeoff.ensures) in
     let once : HasEachOnce (visited (walk (scene_objects old.objects.stored.state) f)) load.reach.items =
-    subst (λ (s : Stored). HasEachOnce (visited (walk (scene_objects s.state) f)) load.reach.items) c.store-store.ensures c.in_ok-load.ensures.reach in
-    let shows : scene_of_load load ≡ scene (scene_objects old.objects.stored.state) f = c.in_ok-load.ensures.scene ∙ ap (λ (s : Stored). scene (scene_objects s.state) f) c.store-store.ensures in
-    let within = c.in_ok-load.ensures.within in
+    subst (λ (s : Stored). HasEachOnce (visited (walk (scene_objects s.state) f)) load.reach.items) c.store-store.ensures c.in_ok-reach.ensures.reach in
+    let shown : scene_prepared c.in_ok-reach.field-0.scene ≡ scene (scene_objects old.objects.stored.state) f = c.in_ok-reach.ensures.scene ∙ ap (λ (s : Stored). scene (scene_objects s.state) f) c.store-store.ensures in
+    let shows : scene_of_load load ≡ Some (scene (scene_objects old.objects.stored.state) f) = ap Some shown in
+    let within : IsSceneWithin (scene (scene_objects old.objects.stored.state) f) = subst IsSceneWithin shown c.in_ok-reach.ensures.within in
     let cargo : c.begin_kept.new.flights.cargo ≡ old.flights.cargo ++ t.cargo ∷ [] = ap (λ (b : Books Load). b.cargo) c.in_ok-begin_kept.ensures.begun in
     let holds : c.hold_reach.new.objects ≡ record old.objects { stored = moved_now old actor f p legal counted_old load t takes once shows within } =
     held_now old actor f p legal counted_old load t takes once shows within (c.entries-place.result + 1) c.begin_kept.new.flights.cargo c.show.new.self c.hold_reach.new.objects place cargo c.show.ensures c.hold_reach.ensures in
     let moves : c.hold_reach.new.objects.stored ≡ moved_now old actor f p legal counted_old load t takes once shows within = ap (λ (o : Objects). o.stored) holds in
-    let wanted : IsWanted (scene_objects old.objects.stored.state) old.worlds f c.in_ok-load.field-0.build = subst (λ (s : Stored). IsWanted (scene_objects s.state) old.worlds f c.in_ok-load.field-0.build) c.store-store.ensures c.in_ok-load.ensures.build in
-    let wanted_after : IsWanted (scene_objects (after old.history).state) old.worlds f c.in_ok-load.field-0.build = subst (λ (s : State). IsWanted (scene_objects s) old.worlds f c.in_ok-load.field-0.build) p.rest.state wanted in
+    let wanted : IsWanted (scene_objects old.objects.stored.state) old.worlds f c.in_ok-reach.field-0.build = subst (λ (s : Stored). IsWanted (scene_objects s.state) old.worlds f c.in_ok-reach.field-0.build) c.store-store.ensures c.in_ok-reach.ensures.build in
+    let wanted_after : IsWanted (scene_objects (after old.history).state) old.worlds f c.in_ok-reach.field-0.build = subst (λ (s : State). IsWanted (scene_objects s) old.worlds f c.in_ok-reach.field-0.build) p.rest.state wanted in
     let exactly : c.is_some-built.result ≡ wants_build (scene_objects old.objects.stored.state) old.worlds f = c.is_some-built.ensures ∙ wanted.exactly in
     let counts : old.builds + c.from.result ≡ old.builds + cond c.is_some-built.result 1 0 = ap (λ n. old.builds + n) (c.from.ensures ∙ as_number c.is_some-built.result) in
     let begun = c.in_ok-begin_kept.ensures.begun in

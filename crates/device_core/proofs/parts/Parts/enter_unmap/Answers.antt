@@ -28,7 +28,7 @@ use Rattle.device_core.specs.Calls.{HasEntered}
 use Rattle.device_core.specs.Standing.{IsStanding}
 use Rattle.device_core.specs.declared.loads.Load.{Load}
 use Rattle.device_core.proofs.CalledFacts.{called_enters, called_leaves, called_parts}
-use Rattle.device_core.proofs.UnmapFacts.{lent_channel, moved, same_flights, unmap_count, unmap_flies, unmap_follows, unmap_stands, unmap_tells}
+use Rattle.device_core.proofs.UnmapFacts.{lent_channel, moved, same_flights, unmap_aboard, unmap_flies, unmap_follows, unmap_stands, unmap_tells}
 use Rattle.device_core.proofs.parts.Parts.enter_unmap.Goals as goal
 
 pub unreachable-requires : goal.unreachable-requires
@@ -65,7 +65,7 @@ invariant_of-self c =
     (c.bury.ensures.departed ∙ ap (λ (s : Stored). keys_of (gone s.state c.bury.new.objects.stored.state)) moves)
     c.push_reserved.ensures.items
     (unmap_flies old c.args.actor c.args.h c.args.number c.self.invariant legal new channel c.push_reserved.ensures.items flights)
-    (unmap_count old c.args.actor c.args.h c.args.number c.self.invariant legal new channel c.push_reserved.ensures.items flights)
+    (unmap_aboard old c.args.actor c.args.h c.args.number c.self.invariant legal new channel c.push_reserved.ensures.items flights)
     (ap (λ (b : Books Load). b.cargo) flights) (ap (λ (b : Books Load). b.over) flights)
     (stay_known old.history (Called c.args.actor (UnmapFrame c.args.h c.args.number) reply.Done) (is_there old.history) (reach_at old.worlds) refl (λ objects. refl) c.self.invariant.kept)
     c.self.invariant.shown
@@ -93,7 +93,7 @@ returns-clause-entered c =
     (c.bury.ensures.departed ∙ ap (λ (s : Stored). keys_of (gone s.state c.bury.new.objects.stored.state)) moves)
     c.push_reserved.ensures.items
     (unmap_flies old c.args.actor c.args.h c.args.number c.self.invariant legal new channel c.push_reserved.ensures.items flights)
-    (unmap_count old c.args.actor c.args.h c.args.number c.self.invariant legal new channel c.push_reserved.ensures.items flights)
+    (unmap_aboard old c.args.actor c.args.h c.args.number c.self.invariant legal new channel c.push_reserved.ensures.items flights)
     (ap (λ (b : Books Load). b.cargo) flights) (ap (λ (b : Books Load). b.over) flights)
     (stay_known old.history (Called c.args.actor (UnmapFrame c.args.h c.args.number) reply.Done) (is_there old.history) (reach_at old.worlds) refl (λ objects. refl) c.self.invariant.kept)
     c.self.invariant.shown
@@ -123,7 +123,7 @@ returns-clause-stands c =
     (c.bury.ensures.departed ∙ ap (λ (s : Stored). keys_of (gone s.state c.bury.new.objects.stored.state)) moves)
     c.push_reserved.ensures.items
     (unmap_flies old c.args.actor c.args.h c.args.number c.self.invariant legal new channel c.push_reserved.ensures.items flights)
-    (unmap_count old c.args.actor c.args.h c.args.number c.self.invariant legal new channel c.push_reserved.ensures.items flights)
+    (unmap_aboard old c.args.actor c.args.h c.args.number c.self.invariant legal new channel c.push_reserved.ensures.items flights)
     (ap (λ (b : Books Load). b.cargo) flights) (ap (λ (b : Books Load). b.over) flights)
     (stay_known old.history (Called c.args.actor (UnmapFrame c.args.h c.args.number) reply.Done) (is_there old.history) (reach_at old.worlds) refl (λ objects. refl) c.self.invariant.kept)
     c.self.invariant.shown

@@ -16,7 +16,7 @@ use Rattle.device_laws.proofs.OverFacts.{none_over}
 use Rattle.device_laws.specs.Replies.{AreTold}
 use Rattle.device_laws.specs.Flown.{Flown, LetsNotes, runs_of}
 use Rattle.device_laws.proofs.StandingFacts.{first_flown}
-use Rattle.device_core.specs.AllParts.{AreParts, IsLoaded, shown_by}
+use Rattle.device_core.specs.AllParts.{AreAboard, AreParts, IsLoaded, shown_by}
 use Rattle.std.specs.Prelude.{vec_capacity}
 use Rattle.device_core.proofs.parts.Parts.new.Goals as goal
 
@@ -37,6 +37,7 @@ invariant_of-result c =
       rest = rest;
       flown = subst (λ (s : Future). Flown [] (runs_of s.flights)) (sym c.new-2.ensures.future) first_flown;
       loaded = subst (AllByRecursion (IsLoaded [])) (sym c.new-2.ensures.cargo) tt;
+      aboard = subst (λ (s : Future). AreAboard s.flights c.new-2.result.cargo) (sym c.new-2.ensures.future) (subst (AreAboard []) (sym c.new-2.ensures.cargo) tt);
       lets = lets_first;
       kept = c.new-3.ensures.known (is_there []);
       shown = subst (λ (w : Worlds World). AreShown [] (shown_at shown_by w)) (sym c.new-3.ensures.empty) (λ _. tt);

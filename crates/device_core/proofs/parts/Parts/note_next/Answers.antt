@@ -1,11 +1,13 @@
-use Rattle.std.proofs.Common.{◌≡◌, ◌∙◌, ℕ, ◌+◌, ◌<◌, ◌≤◌, true, [], ◌∷◌, ◌++◌, length, refl, sym, ap, subst, None}
+use Rattle.std.proofs.Common.{◌≡◌, ◌∙◌, ℕ, ◌+◌, ◌<◌, ◌≤◌, true, [], ◌∷◌, ◌++◌, length, map, refl, sym, ap, subst, None}
 use Rattle.std.specs.Prelude.{slice_index_or, vec_capacity}
 use Rattle.std.specs.List.{AllByRecursion, filter_map}
 use Rattle.std.specs.Map.{keys_of}
 use Rattle.std.proofs.lemmas.List.{append-nil}
 use Rattle.dev_types.specs.Counting.{times}
 use Rattle.flight_books.specs.Kept.{Books}
+use Rattle.flight_books.specs.Sweeps.{note}
 use Rattle.frame_future.specs.Flights.{Flying}
+use Rattle.frame_future.specs.Future.{Future, Rising}
 use Rattle.object_store.specs.Gathers.{IsLeft, buried}
 use Rattle.object_store.specs.Kept.{CountsItsObjects, number_at}
 use Rattle.object_steps.specs.Objects.{Objects}
@@ -16,10 +18,11 @@ use Rattle.seq_model.specs.Told.{end_of_object, gone}
 use Rattle.device_laws.specs.Over.{AllOver}
 use Rattle.device_laws.proofs.OverFacts.{note_over}
 use Rattle.device_laws.specs.Flown.{Flown, runs_of}
-use Rattle.device_core.specs.AllParts.{AreParts, Inside, IsLoaded}
+use Rattle.device_core.specs.AllParts.{AreAboard, AreParts, Inside, IsLoaded}
 use Rattle.device_core.specs.Holds.{held_less, with_holds}
-use Rattle.device_core.specs.Notes.{HasNoted, HasNotedNothing, note}
+use Rattle.device_core.specs.Notes.{HasNoted, HasNotedNothing}
 use Rattle.device_core.specs.declared.loads.Load.{Load}
+use Rattle.device_core.proofs.AboardFacts.{aboard_none}
 use Rattle.device_core.proofs.NotedFacts.{IsEnding, ending, follows, holds_it, moved, noted, noted_fewer, noted_parts, noted_stands, noted_told, own_frame}
 use Rattle.device_laws.proofs.FramesStandFacts.{fewer_kept, looked_stands}
 use Rattle.device_laws.proofs.ReplyFacts.{seen_told}
@@ -29,11 +32,12 @@ use Rattle.device_core.proofs.parts.Parts.note_next.Goals as goal
 
 -- where no flight ended, all holds as before
 unended : (old : Inside) (flights : Books Load) → AreParts old → runs_of flights.future.flights ≡ runs_of old.flights.future.flights → length flights.future.flights ≡ length old.flights.future.flights
-    → flights.cargo ≡ old.flights.cargo → flights.over ≡ old.flights.over → AreParts (record old { flights = flights })
-unended old flights p runs count cargo over = record {
+    → flights.cargo ≡ old.flights.cargo → flights.over ≡ old.flights.over → AreAboard flights.future.flights old.flights.cargo → AreParts (record old { flights = flights })
+unended old flights p runs count cargo over aboard = record {
   rest = p.rest;
   flown = subst (Flown old.history) (sym runs) p.flown;
   loaded = subst (AllByRecursion (IsLoaded old.history)) (sym cargo) p.loaded;
+  aboard = subst (AreAboard flights.future.flights) (sym cargo) aboard;
   lets = p.lets;
   kept = p.kept;
   shown = p.shown;
@@ -47,6 +51,8 @@ invariant_of-self c =
     let old : Inside = record { objects = c.self.inside.objects; flights = c.self.inside.flights; worlds = c.self.inside.worlds; history = c.self.inside.journal.items; room = vec_capacity c.self.inside.journal; builds = c.self.inside.builds } in
     let runs = none_seen c.args.after old.flights.future c.next_ended.new.self.future c.in-None.ensures.seen in
     unended old c.next_ended.new.self c.self.invariant runs (seen_count old.flights.future c.next_ended.new.self.future runs) c.in-None.ensures.cargo (c.in-None.ensures.over ∙ append-nil old.flights.over)
+    (aboard_none c.args.after old.flights c.next_ended.new.self.future (subst (λ (s : Future). Rising (map (λ f. f.ticket) s.flights)) c.frames.ensures.value c.are_kept.ensures.rising) c.frames.ensures.books
+    c.self.invariant.aboard c.in-None.ensures.seen)
 
 pub end_flight-requires : goal.end_flight-requires
 end_flight-requires c =

@@ -56,3 +56,7 @@ loop-ticket-preserved g c =
 
 pub returns-clause-swept : goal.returns-clause-swept
 returns-clause-swept g c = sweeping_over c.args.self.now c.loop-ticket.self c.note_next.new.self c.loop-ticket.last c.loop-ticket.invariant.0 c.in_default.ensures.noted
+
+pub returns-clause-short : goal.returns-clause-short
+returns-clause-short g c =
+    (sweeping_over c.args.self.now c.loop-ticket.self c.note_next.new.self c.loop-ticket.last c.loop-ticket.invariant.0 c.in_default.ensures.noted).flights.waits

@@ -9,8 +9,8 @@ use Rattle.device_core.specs.AllParts.{Inside}
 use Rattle.device_core.proofs.RecordFacts.{asks_as, flies_as}
 use Rattle.device_core.proofs.records.RecordedRecords.shown.Goals as goal
 
-pub tiles-requires : goal.tiles-requires
-tiles-requires c =
+pub tiles-requires-clause-flies : goal.tiles-requires-clause-flies
+tiles-requires-clause-flies c =
     let i = c.self.inside.parts.now in
     let phase = subst (λ (j : Inside). phase_at (after j.history) c.args.h ≡ phase_of c.args.shows) (sym c.self.view_is) c.requires ∙ ap phase_of c.in-Flight.is in
     let flight = flies_as i c.args.h c.in-Flight.ticket c.self.invariant.0 c.self.invariant.1 phase in
