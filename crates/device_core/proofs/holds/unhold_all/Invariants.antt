@@ -1,6 +1,0 @@
-use Rattle.std.proofs.Common.{◌≡◌, take}
-use Rattle.device_core.specs.Holds.{held_less, with_holds}
-use Rattle.device_core.proofs.holds.unhold_all.Given as goal
-
-abbrev pub invariant-loop-h : goal.invariant-loop-h
-invariant-loop-h l = l.objects ≡ with_holds l.fn.objects (held_less (take l.h-index l.reach) l.fn.objects.stored.holds)

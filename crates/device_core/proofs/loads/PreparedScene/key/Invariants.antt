@@ -1,5 +1,0 @@
-use Rattle.device_core.proofs.loads.PreparedScene.key.Given as goal
-use Rattle.device_core.specs.AllParts.{scene_prepared}
-
-abbrev pub ghost-of : goal.ghost-of
-ghost-of a = scene_prepared a._about.now

@@ -1,0 +1,23 @@
+use Rattle.std.proofs.Common.{◌≡◌, ◌∙◌, ◌+◌, length, ap, subst, sym}
+use Rattle.std.specs.Prelude.{nat_lt}
+use Rattle.frame_future.specs.Future.{IsKept}
+use Rattle.seq_model.proofs.Afters.{seen_is_history}
+use Rattle.seq_model.specs.Room.{is_full, loans_out, need}
+use Rattle.seq_model.specs.State.{flights}
+use Rattle.seq_model.specs.Steps.{after}
+use Rattle.device_parts.specs.AllParts.{Inside}
+use Rattle.device_parts.proofs.RoomFacts.{flight_count}
+use Rattle.device_parts.proofs.parts.Parts.is_full.Goals as goal
+
+pub returns : goal.returns
+unfolding is_full
+returns c =
+    let i = c.args.self.now in
+    let kept : IsKept i.flights.future = subst IsKept (c.frames.ensures.value ∙ ap (λ (i : Inside). i.flights.future) c.self.view_is) c.are_kept.ensures in
+    let limit = c.from-3.ensures ∙ c.saturating_sub.ensures in
+    let entries : c.from-entries.result ≡ length (after i.history).seen = c.from-entries.ensures ∙ c.entries.ensures.count ∙ ap length (sym (seen_is_history i.history)) in
+    let flown : c.flight_count-flights.result ≡ length (flights (after i.history).state) =
+    c.flight_count-flights.ensures ∙ ap (λ (i : Inside). length i.flights.future.flights) c.self.view_is ∙ sym (flight_count i.history i.flights.future c.are_parts.ensures.flown kept) in
+    let loans : c.from.result ≡ loans_out (after i.history).state = c.from.ensures ∙ c.requires.loans in
+    let needed : c.from-2.result ≡ need (after i.history).state c.args.call.now = c.from-2.ensures ∙ c.need.ensures in
+    (λ k. nat_lt (limit k) (entries k + flown k + loans k + needed k))
