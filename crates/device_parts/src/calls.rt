@@ -1,5 +1,5 @@
 //! Calls that change no frame: what they do to the objects is carried out, and they are entered.
-ghost use Rattle.std.specs.Prelude.{◌≡◌, ◌+◌, ◌<◌, ◌≤◌, ◌^◌, ◌++◌, ◌∷◌, [], ℕ, Bool, IfErr, IfOk, None, OnErr, OnOk, Some, false, length};
+ghost use Rattle.std.specs.Prelude.{◌≡◌, ◌+◌, ◌<◌, ◌≤◌, ◌^◌, ◌++◌, ◌∷◌, [], ℕ, Bool, IfErr, IfOk, IsOk, None, OnErr, OnOk, Some, false, length};
 ghost use Rattle.std.specs.Option.{unwrap_or};
 ghost use Rattle.flight_books.specs.Kept.{with_future};
 ghost use Rattle.frame_future.specs.Future.{AreHome};
@@ -80,10 +80,17 @@ impl Parts {
         self.answer_call(alloc, actor, call, with)
     }
 
-    /// Makes room in the journal for so many entries, beside the notes of the flights.
-    pub(crate) fn make_places(&mut self, places: usize) -> Result<(), NoMemory>
+    /// Makes room in the journal for so many entries, beside the notes of the flights and one place
+    /// more.
+    ///
+    /// # Errors
+    /// `NoMemory`, only where that room was missing; nothing has changed.
+    pub fn make_places(&mut self, places: usize) -> Result<(), NoMemory>
         ensures places { OnOk result (length self.old.history + length self.old.flights.future.flights
             + places < self.new.room) }
+        ensures had_room { length self.old.history + length self.old.flights.future.flights + places
+            < self.old.room → IsOk result }
+        ensures refused { OnErr result (self.new ≡ self.old) }
         ensures same { self.new ≡ record self.old { room = self.new.room } }
         ensures grows { self.old.room ≤ self.new.room }
     {
