@@ -22,6 +22,7 @@ pub mod SeenFacts
 pub mod ShownFacts
 pub mod SweepFacts
 pub mod TellFacts
+pub mod TicketFacts
 pub mod UndoFacts
 pub mod UnmapFacts
 pub mod WorkFacts

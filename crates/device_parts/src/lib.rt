@@ -19,6 +19,7 @@ mod records;
 mod renders;
 mod rooms;
 mod sweeps;
+mod tickets;
 mod unmaps;
 mod uses;
 mod works;
