@@ -1,5 +1,5 @@
 -- Sweeps, note by note.
-use Rattle.std.proofs.Common.{◌≡◌, ◌∙◌, ℕ, ◌+◌, ◌<◌, List, [], ◌∷◌, ◌++◌, Option, Some, None, length, refl, sym, ap, subst, arith}
+use Rattle.std.proofs.Common.{◌≡◌, ◌∙◌, ℕ, ◌+◌, ◌<◌, List, [], ◌∷◌, ◌++◌, Option, Some, None, length, length-append, refl, sym, ap, ap₂, subst, arith}
 use Rattle.std.proofs.lemmas.List.{append-nil}
 use Rattle.std.specs.List.{AllByRecursion, filter_map}
 use Rattle.flight_books.specs.Kept.{without}
@@ -16,6 +16,7 @@ use Rattle.device_parts.specs.Deaths.{all_told}
 use Rattle.device_parts.specs.Notes.{HasNoted, HasNotedNothing}
 use Rattle.device_parts.specs.Sweeps.{HasSwept, showing}
 use Rattle.device_laws.proofs.FramesStandFacts.{fewer_kept}
+use Rattle.device_parts.proofs.SeenFacts.{none_seen, seen_count}
 
 -- a look at flights sees the same whatever pictures there are
 seen_with : (last : ℕ) (old new : Future) (result : Option Ended) (pictures : List Finished) → (s : AreSeen last old new result)
@@ -94,3 +95,16 @@ sweeping_over old now new last s nothing =
 pub noted_tells : (now mid : Inside) (last t : ℕ) → HasNoted last now mid t → told now.history ++ filter_map notice_of mid.objects.dead ≡ told mid.history
 noted_tells now mid last t noted =
     ap (λ ns. told now.history ++ ns) noted.told ∙ sym (told_more now.history (note noted.ended.left t)) ∙ ap told (sym noted.grown)
+
+-- the note takes the place of its flight
+pub one_noted : (now mid : Inside) (last t : ℕ) → HasNoted last now mid t → length mid.history + length mid.flights.future.flights ≡ length now.history + length now.flights.future.flights
+one_noted now mid last t noted =
+    let one = fewer last now.flights.future noted.looked noted.ended noted.seen in
+    let same = ap (λ (f : Future). length f.flights) noted.left ∙ ap length (fewer_kept noted.looked mid.objects.departed).0 in
+    let longer = ap length noted.grown ∙ length-append now.history (note noted.ended.left t ∷ []) in
+    omega (arith, one, same, longer)
+
+pub none_noted : (now new : Inside) (last : ℕ) → HasNotedNothing last now new → length new.history + length new.flights.future.flights ≡ length now.history + length now.flights.future.flights
+none_noted now new last nothing =
+    ap₂ (λ m n. m + n) (ap (λ (i : Inside). length i.history) nothing.rest)
+    (seen_count now.flights.future new.flights.future (none_seen last now.flights.future new.flights.future nothing.seen))

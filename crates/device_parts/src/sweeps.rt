@@ -27,7 +27,8 @@ impl Parts {
     }
 
     /// Looks once at each flight, by rising ticket, and notes those that ended by it; the client is
-    /// told who died with a note before the next one is made. Takes no memory.
+    /// told who died with a note before the next one is made. Each note takes the place of its flight,
+    /// and what the client has beyond the ends that it is still to be told is no less. Takes no memory.
     pub fn sweep<C: Client>(&mut self, client: &mut C)
         requires home { AreHome self.old.flights.future }
         requires all_told { self.old.objects.dead ≡ [] }
@@ -36,11 +37,15 @@ impl Parts {
         ensures all_told { self.new.objects.dead ≡ [] }
         ensures spare { tellable self.new.objects.stored.state ≤ C.spare client.new }
         ensures swept { HasSwept self.old self.new }
+        ensures places { length self.new.history + length self.new.flights.future.flights
+            ≡ length self.old.history + length self.old.flights.future.flights }
         ensures told { (before : List Notices)
             → C.notices client.old ≡ before ++ told self.old.history
             → C.notices client.new ≡ before ++ told self.new.history }
         ensures room { C.spare client.old + length (C.notices client.old)
             ≤ C.spare client.new + length (C.notices client.new) }
+        ensures left { C.spare client.old + tellable self.new.objects.stored.state
+            ≤ C.spare client.new + tellable self.old.objects.stored.state }
         ensures short { AreShort self.new.flights.future }
         ensures stands { IsStanding self.old → IsStanding self.new }
     {
