@@ -20,6 +20,7 @@ pub mod RenderedFacts
 pub mod RoomFacts
 pub mod SeenFacts
 pub mod ShownFacts
+pub mod StopFacts
 pub mod SweepFacts
 pub mod TellFacts
 pub mod TicketFacts

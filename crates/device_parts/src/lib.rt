@@ -18,6 +18,7 @@ mod parts;
 mod records;
 mod renders;
 mod rooms;
+mod stops;
 mod sweeps;
 mod tickets;
 mod unmaps;
