@@ -2,6 +2,7 @@
 pub mod AboardFacts
 pub mod BeginFacts
 pub mod CalledFacts
+pub mod CloseFacts
 pub mod DiscardFacts
 pub mod EndFacts
 pub mod EntryFacts

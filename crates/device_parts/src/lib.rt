@@ -6,6 +6,7 @@ mod asks;
 mod begins;
 mod burials;
 mod calls;
+mod closes;
 mod discards;
 mod ends;
 mod holds;
