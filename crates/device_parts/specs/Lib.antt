@@ -2,6 +2,7 @@
 pub mod Asks
 pub mod Ends
 pub mod Holds
+pub mod Journals
 pub mod Looks
 pub mod AllParts
 pub mod Deaths

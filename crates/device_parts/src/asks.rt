@@ -1,5 +1,5 @@
 //! Calls that may tell of a flight: whether a frame is ready, renders, and maps of its channels.
-ghost use Rattle.std.specs.Prelude.{◌≡◌, [], IfOk, IsSome, OnErr, OnOk, Some};
+ghost use Rattle.std.specs.Prelude.{◌≡◌, ◌+◌, ◌≤◌, [], IfOk, IsSome, OnErr, OnOk, Some};
 ghost use Rattle.answered_calls.specs.Tells.{with_given};
 ghost use Rattle.call_answers.specs.Plain.{ShowsNoPicture};
 ghost use Rattle.std.specs.Option.{option_map};
@@ -9,6 +9,7 @@ ghost use Rattle.seq_model.specs.Answers.{answer};
 ghost use Rattle.seq_model.specs.Refusals.{refusal};
 ghost use Rattle.seq_model.specs.Steps.{after};
 ghost use Rattle.seq_model.specs.declared.calls.Call.TheVariants.{FrameReady, MapFrame, RenderFrame};
+ghost use Rattle.seq_model.specs.declared.calls.Reply.TheVariants as reply;
 ghost use Rattle.device_laws.specs.FramesStand.{without_pictures};
 ghost use Rattle.device_parts.specs.Asks.{HasMappedOrStayed, HasRendered};
 ghost use Rattle.device_parts.specs.Calls.{HasEntered, HasRoomMade};
@@ -94,6 +95,7 @@ impl Parts {
             (with_given (given_of self.old.flights.future frame))
             (answer (after self.old.history) (RenderFrame frame)) ≡ Some r) }
         ensures frames { IfOk result (λ r. HasRendered frame r self.old self.new) }
+        ensures note_place { IfOk result (λ r. r ≡ reply.Done → self.old.room + 1 ≤ self.new.room) }
         ensures stands { IsStanding self.new }
         ensures home { AreHome self.old.flights.future → AreHome self.new.flights.future }
         ensures err { OnErr result (HasRoomMade self.old self.new) }

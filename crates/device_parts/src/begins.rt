@@ -1,5 +1,5 @@
 //! Renders: a flight begins.
-ghost use Rattle.std.specs.Prelude.{◌≡◌, ◌+◌, ◌++◌, ◌∷◌, [], ◌<◌, ◌≤◌, ◌^◌, ℕ, All, None, Some, false, IfOk, IfSome, IsSome, OnErr, OnOk, length};
+ghost use Rattle.std.specs.Prelude.{◌≡◌, ◌+◌, ◌-◌, ◌++◌, ◌∷◌, [], ◌<◌, ◌≤◌, ◌^◌, ℕ, All, None, Some, false, IfOk, IfSome, IsSome, OnErr, OnOk, length};
 ghost use Rattle.dev_types.specs.declared.handles.Channel.{Channel as Channels};
 ghost use Rattle.dev_types.specs.Counting.{times};
 ghost use Rattle.flight_books.specs.Kept.{cargo_at};
@@ -248,7 +248,8 @@ impl Parts {
     }
 
     /// Renders a frame to which no refusal applies, and enters that, as `enter_render`; these are
-    /// the visits of the walk from the frame.
+    /// the visits of the walk from the frame. The place of the note is taken with it, so that no fewer
+    /// places are free afterwards.
     ///
     /// # Errors
     /// `NoMemory`; all is then as it was, but for the room.
@@ -267,14 +268,41 @@ impl Parts {
         ensures entered { OnOk result (HasEntered actor (RenderFrame frame) reply.Done
             self.old self.new) }
         ensures begun { OnOk result (HasBegun frame self.old self.new) }
+        ensures note_place { OnOk result (self.old.room + 1 ≤ self.new.room) }
         ensures stands { IsStanding self.new }
         ensures home { AreHome self.old.flights.future → AreHome self.new.flights.future }
         ensures err { OnErr result (HasRoomMade self.old self.new) }
     {
         self.are_parts();
-        // One place is for the note of the flight.
-        self.make_places(2)?;
-        self.enter_render(alloc, actor, frame, visits)
+        self.keep_render_places()?;
+        match self.enter_render(alloc, actor, frame, visits) {
+            Ok(()) => Ok(()),
+            Err(none) => {
+                self.give_up_render_places();
+                Err(none)
+            }
+        }
+    }
+
+    /// Keeps the two places that a render takes beyond those that are kept already: that of its entry,
+    /// and that of the note of its flight.
+    ///
+    /// # Errors
+    /// `NoMemory`; nothing has changed.
+    fn keep_render_places(&mut self) -> Result<(), NoMemory>
+        ensures kept { OnOk result (self.new ≡ record self.old { room = self.old.room + 2 }) }
+        ensures refused { OnErr result (self.new ≡ self.old) }
+    {
+        self.journal.add_places(2)
+    }
+
+    /// Gives up two places, which are free.
+    fn give_up_render_places(&mut self)
+        requires { length self.old.history + length self.old.flights.future.flights + 2
+            < self.old.room }
+        ensures { self.new ≡ record self.old { room = self.old.room - 2 } }
+    {
+        self.journal.give_up_places(2);
     }
 
     /// Why a frame is not rendered, where no tile of a flight was seen finished, with the visits of

@@ -94,6 +94,8 @@ impl Parts {
         ensures same { self.new ≡ record self.old { room = self.new.room } }
         ensures grows { self.old.room ≤ self.new.room }
     {
+        // Its clause tells the proof that there is room for fewer than 2^64 entries.
+        let _entries = self.journal.len();
         let flights = self.flights.flight_count();
         let Some(places) = flights.checked_add(places) else {
             return Err(NoMemory);

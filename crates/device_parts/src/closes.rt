@@ -35,6 +35,6 @@ impl Parts {
         } = self;
         objects.close(client);
         journal.push_reserved(Entry::Closed);
-        (journal, builds)
+        (journal.into_entries(), builds)
     }
 }

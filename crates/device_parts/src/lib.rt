@@ -10,6 +10,7 @@ mod closes;
 mod discards;
 mod ends;
 mod holds;
+mod journals;
 mod lends;
 mod loads;
 mod looks;

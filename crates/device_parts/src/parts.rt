@@ -3,12 +3,12 @@ ghost use Rattle.std.specs.Prelude.{◌≡◌, [], IfOk};
 ghost use Rattle.frame_future.specs.Future.{nothing};
 ghost use Rattle.device_parts.specs.Standing.{IsStanding};
 
+use crate::journals::EntryLog;
 use crate::loads::Load;
 use dev_types::NoMemory;
 use flight_books::FlightBooks;
 use kept_worlds::KeptWorlds;
 use object_steps::ObjectStore;
-use seq_model::Entry;
 use std::alloc::Global;
 use std::marker::Model;
 use world_snapshot::Prepared;
@@ -19,12 +19,11 @@ pub struct Parts {
     pub(crate) objects: ObjectStore,
     pub(crate) flights: FlightBooks<Load>,
     pub(crate) worlds: KeptWorlds<Prepared>,
-    pub(crate) journal: Vec<Entry>,
+    pub(crate) journal: EntryLog,
     pub(crate) builds: u64,
 }
 
 impl Model for Parts {
-    ghost use Rattle.std.specs.Prelude.{vec_capacity};
     ghost use Rattle.device_parts.specs.AllParts.{AreParts, Inside as Insides};
 
     ghost Value = { Insides };
@@ -34,7 +33,7 @@ impl Model for Parts {
       flights = p.flights;
       worlds = p.worlds;
       history = p.journal.items;
-      room = vec_capacity p.journal;
+      room = p.journal.room;
       builds = p.builds;
     } };
 
@@ -43,7 +42,7 @@ impl Model for Parts {
       flights = p.flights;
       worlds = p.worlds;
       history = p.journal.items;
-      room = vec_capacity p.journal;
+      room = p.journal.room;
       builds = p.builds;
     }) };
 }
@@ -59,8 +58,7 @@ impl Parts {
         ensures flights { IfOk result (λ parts. parts.flights.future ≡ nothing) }
         ensures stands { IfOk result IsStanding }
     {
-        let mut journal = Vec::new(alloc);
-        journal.reserve(1)?;
+        let journal = EntryLog::new(alloc)?;
         Ok(Parts {
             objects: ObjectStore::new(alloc),
             flights: FlightBooks::new(alloc),

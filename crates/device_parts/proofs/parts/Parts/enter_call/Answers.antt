@@ -1,5 +1,5 @@
 use Rattle.std.proofs.Common.{◌≡◌, ◌∙◌, ℕ, true, ◌+◌, ◌<◌, ◌++◌, ◌∷◌, [], length, refl, sym, ap, subst}
-use Rattle.std.specs.Prelude.{slice_index_or, vec_capacity}
+use Rattle.std.specs.Prelude.{slice_index_or}
 use Rattle.frame_future.specs.Flights.{Flying}
 use Rattle.device_laws.proofs.FramesStandFacts.{fewer_kept}
 use Rattle.std.specs.List.{filter_map}
@@ -26,7 +26,7 @@ use Rattle.device_parts.proofs.parts.Parts.enter_call.Goals as goal
 
 pub bury-requires-clause-ranked : goal.bury-requires-clause-ranked
 bury-requires-clause-ranked c =
-    let old : Inside = record { objects = c.self.inside.objects; flights = c.self.inside.flights; worlds = c.self.inside.worlds; history = c.self.inside.journal.items; room = vec_capacity c.self.inside.journal; builds = c.self.inside.builds } in
+    let old : Inside = record { objects = c.self.inside.objects; flights = c.self.inside.flights; worlds = c.self.inside.worlds; history = c.self.inside.journal.items; room = c.self.inside.journal.room; builds = c.self.inside.builds } in
     let e = Called c.args.actor c.args.call c.args.reply in
     let can = subst (λ (i : Inside). CanCarry i.objects.stored c.args.call c.args.reply) (sym c.self.view_is) c.requires.can in
     let legal = subst (λ (i : Inside). Legal (i.history ++ e ∷ [])) (sym c.self.view_is) c.requires.legal in
@@ -38,8 +38,8 @@ bury-requires-clause-ranked c =
 
 pub invariant_of-self-2 : goal.invariant_of-self-2
 invariant_of-self-2 c =
-    let old : Inside = record { objects = c.self.inside.objects; flights = c.self.inside.flights; worlds = c.self.inside.worlds; history = c.self.inside.journal.items; room = vec_capacity c.self.inside.journal; builds = c.self.inside.builds } in
-    let new : Inside = record { objects = c.bury.new.objects; flights = c.bury.new.flights; worlds = c.bury.new.worlds; history = c.push_reserved.new.self.items; room = vec_capacity c.push_reserved.new.self; builds = c.self.inside.builds } in
+    let old : Inside = record { objects = c.self.inside.objects; flights = c.self.inside.flights; worlds = c.self.inside.worlds; history = c.self.inside.journal.items; room = c.self.inside.journal.room; builds = c.self.inside.builds } in
+    let new : Inside = record { objects = c.bury.new.objects; flights = c.bury.new.flights; worlds = c.bury.new.worlds; history = c.push_reserved.new.self.items; room = c.push_reserved.new.self.room; builds = c.self.inside.builds } in
     let e = Called c.args.actor c.args.call c.args.reply in
     let can = subst (λ (i : Inside). CanCarry i.objects.stored c.args.call c.args.reply) (sym c.self.view_is) c.requires.can in
     let legal = subst (λ (i : Inside). Legal (i.history ++ e ∷ [])) (sym c.self.view_is) c.requires.legal in
@@ -62,13 +62,13 @@ invariant_of-self-2 c =
     (ap (λ (b : Books Load). b.cargo) c.bury.ensures.flights) (ap (λ (b : Books Load). b.over) c.bury.ensures.flights)
     (c.touch.ensures.known old.history c.args.actor (is_there old.history) c.self.invariant.kept)
     (c.touch.ensures.shown shown_by old.history c.self.invariant.shown)
-    c.bury.ensures.forgotten c.bury.ensures.known refl c.push_reserved.ensures.capacity
+    c.bury.ensures.forgotten c.bury.ensures.known refl c.push_reserved.ensures.room
     (subst IsStanding (sym c.self.view_is) c.requires.stands) (subst (λ (i : Inside). length i.history + length i.flights.future.flights + 1 < i.room) (sym c.self.view_is) c.requires.place)
 
 pub returns-clause-entered : goal.returns-clause-entered
 returns-clause-entered c =
-    let old : Inside = record { objects = c.self.inside.objects; flights = c.self.inside.flights; worlds = c.self.inside.worlds; history = c.self.inside.journal.items; room = vec_capacity c.self.inside.journal; builds = c.self.inside.builds } in
-    let new : Inside = record { objects = c.bury.new.objects; flights = c.bury.new.flights; worlds = c.bury.new.worlds; history = c.push_reserved.new.self.items; room = vec_capacity c.push_reserved.new.self; builds = c.self.inside.builds } in
+    let old : Inside = record { objects = c.self.inside.objects; flights = c.self.inside.flights; worlds = c.self.inside.worlds; history = c.self.inside.journal.items; room = c.self.inside.journal.room; builds = c.self.inside.builds } in
+    let new : Inside = record { objects = c.bury.new.objects; flights = c.bury.new.flights; worlds = c.bury.new.worlds; history = c.push_reserved.new.self.items; room = c.push_reserved.new.self.room; builds = c.self.inside.builds } in
     let e = Called c.args.actor c.args.call c.args.reply in
     let can = subst (λ (i : Inside). CanCarry i.objects.stored c.args.call c.args.reply) (sym c.self.view_is) c.requires.can in
     let legal = subst (λ (i : Inside). Legal (i.history ++ e ∷ [])) (sym c.self.view_is) c.requires.legal in
@@ -93,13 +93,13 @@ returns-clause-entered c =
     (ap (λ (b : Books Load). b.cargo) c.bury.ensures.flights) (ap (λ (b : Books Load). b.over) c.bury.ensures.flights)
     (c.touch.ensures.known old.history c.args.actor (is_there old.history) c.self.invariant.kept)
     (c.touch.ensures.shown shown_by old.history c.self.invariant.shown)
-    c.bury.ensures.forgotten c.bury.ensures.known refl c.push_reserved.ensures.capacity
+    c.bury.ensures.forgotten c.bury.ensures.known refl c.push_reserved.ensures.room
     notices)
 
 pub returns-clause-stands : goal.returns-clause-stands
 returns-clause-stands c =
-    let old : Inside = record { objects = c.self.inside.objects; flights = c.self.inside.flights; worlds = c.self.inside.worlds; history = c.self.inside.journal.items; room = vec_capacity c.self.inside.journal; builds = c.self.inside.builds } in
-    let new : Inside = record { objects = c.bury.new.objects; flights = c.bury.new.flights; worlds = c.bury.new.worlds; history = c.push_reserved.new.self.items; room = vec_capacity c.push_reserved.new.self; builds = c.self.inside.builds } in
+    let old : Inside = record { objects = c.self.inside.objects; flights = c.self.inside.flights; worlds = c.self.inside.worlds; history = c.self.inside.journal.items; room = c.self.inside.journal.room; builds = c.self.inside.builds } in
+    let new : Inside = record { objects = c.bury.new.objects; flights = c.bury.new.flights; worlds = c.bury.new.worlds; history = c.push_reserved.new.self.items; room = c.push_reserved.new.self.room; builds = c.self.inside.builds } in
     let e = Called c.args.actor c.args.call c.args.reply in
     let can = subst (λ (i : Inside). CanCarry i.objects.stored c.args.call c.args.reply) (sym c.self.view_is) c.requires.can in
     let legal = subst (λ (i : Inside). Legal (i.history ++ e ∷ [])) (sym c.self.view_is) c.requires.legal in
@@ -123,7 +123,7 @@ returns-clause-stands c =
     (ap (λ (b : Books Load). b.cargo) c.bury.ensures.flights) (ap (λ (b : Books Load). b.over) c.bury.ensures.flights)
     (c.touch.ensures.known old.history c.args.actor (is_there old.history) c.self.invariant.kept)
     (c.touch.ensures.shown shown_by old.history c.self.invariant.shown)
-    c.bury.ensures.forgotten c.bury.ensures.known refl c.push_reserved.ensures.capacity)
+    c.bury.ensures.forgotten c.bury.ensures.known refl c.push_reserved.ensures.room)
     (subst (λ (i : Inside). AreTold (i.history ++ e ∷ []) i.flights.future.flights) (sym c.self.view_is) c.requires.tells)
     (subst IsStanding (sym c.self.view_is) c.requires.stands)
 

@@ -1,5 +1,5 @@
 use Rattle.std.proofs.Common.{◌≡◌, ◌∙◌, ℕ, true, ◌+◌, ◌<◌, ◌++◌, ◌∷◌, [], None, Some, length, refl, sym, ap, subst}
-use Rattle.std.specs.Prelude.{slice_index_or, vec_capacity}
+use Rattle.std.specs.Prelude.{slice_index_or}
 use Rattle.std.specs.List.{filter_map}
 use Rattle.std.specs.Map.{keys_of}
 use Rattle.frame_future.specs.Flights.{Flying}
@@ -25,7 +25,7 @@ use Rattle.device_parts.proofs.parts.Parts.enter_map.Goals as goal
 
 pub map_channel-requires-clause-granted : goal.map_channel-requires-clause-granted
 map_channel-requires-clause-granted c =
-    let old : Inside = record { objects = c.self.inside.objects; flights = c.self.inside.flights; worlds = c.self.inside.worlds; history = c.self.inside.journal.items; room = vec_capacity c.self.inside.journal; builds = c.self.inside.builds } in
+    let old : Inside = record { objects = c.self.inside.objects; flights = c.self.inside.flights; worlds = c.self.inside.worlds; history = c.self.inside.journal.items; room = c.self.inside.journal.room; builds = c.self.inside.builds } in
     let h = c.args.h in
     let channel = c.args.channel in
     let p = c.self.invariant in
@@ -35,7 +35,7 @@ map_channel-requires-clause-granted c =
 
 pub map_channel-requires-clause-there : goal.map_channel-requires-clause-there
 map_channel-requires-clause-there c =
-    let old : Inside = record { objects = c.self.inside.objects; flights = c.self.inside.flights; worlds = c.self.inside.worlds; history = c.self.inside.journal.items; room = vec_capacity c.self.inside.journal; builds = c.self.inside.builds } in
+    let old : Inside = record { objects = c.self.inside.objects; flights = c.self.inside.flights; worlds = c.self.inside.worlds; history = c.self.inside.journal.items; room = c.self.inside.journal.room; builds = c.self.inside.builds } in
     let h = c.args.h in
     let channel = c.args.channel in
     let p = c.self.invariant in
@@ -45,7 +45,7 @@ map_channel-requires-clause-there c =
 
 pub bury-requires-clause-ranked : goal.bury-requires-clause-ranked
 bury-requires-clause-ranked c =
-    let old : Inside = record { objects = c.self.inside.objects; flights = c.self.inside.flights; worlds = c.self.inside.worlds; history = c.self.inside.journal.items; room = vec_capacity c.self.inside.journal; builds = c.self.inside.builds } in
+    let old : Inside = record { objects = c.self.inside.objects; flights = c.self.inside.flights; worlds = c.self.inside.worlds; history = c.self.inside.journal.items; room = c.self.inside.journal.room; builds = c.self.inside.builds } in
     let h = c.args.h in
     let channel = c.args.channel in
     let p = c.self.invariant in
@@ -62,7 +62,7 @@ bury-requires-clause-ranked c =
 
 pub invariant_of-self-2 : goal.invariant_of-self-2
 invariant_of-self-2 c =
-    let old : Inside = record { objects = c.self.inside.objects; flights = c.self.inside.flights; worlds = c.self.inside.worlds; history = c.self.inside.journal.items; room = vec_capacity c.self.inside.journal; builds = c.self.inside.builds } in
+    let old : Inside = record { objects = c.self.inside.objects; flights = c.self.inside.flights; worlds = c.self.inside.worlds; history = c.self.inside.journal.items; room = c.self.inside.journal.room; builds = c.self.inside.builds } in
     let h = c.args.h in
     let channel = c.args.channel in
     let p = c.self.invariant in
@@ -75,7 +75,7 @@ invariant_of-self-2 c =
     let f = lent.picture in
     let next : Stored = moved old h channel p stands none f lent.shown actor in
     let moves : c.map_channel.new.objects.stored ≡ next = ap (λ (o : Objects). o.stored) c.in_ok-loan.ensures.objects ∙ ap (λ n. record old.objects.stored { state = changed_at h (map_channel channel n) old.objects.stored.state }) place in
-    let new : Inside = record { objects = c.bury.new.objects; flights = c.bury.new.flights; worlds = c.bury.new.worlds; history = c.push_reserved.new.self.items; room = vec_capacity c.push_reserved.new.self; builds = c.self.inside.builds } in
+    let new : Inside = record { objects = c.bury.new.objects; flights = c.bury.new.flights; worlds = c.bury.new.worlds; history = c.push_reserved.new.self.items; room = c.push_reserved.new.self.room; builds = c.self.inside.builds } in
     let told : (r : Reply) → r ≡ told_of m.loan → r ≡ told_of (loan_from f channel (length old.history + 1)) = λ r is. is ∙ ap told_of lent.loan_is in
     let grown : c.push_reserved.new.self.items ≡ old.history ++ Called actor (MapFrame h channel) (told_of (loan_from f channel (length old.history + 1))) ∷ [] =
     c.push_reserved.ensures.items ∙ ap (λ r. old.history ++ Called actor (MapFrame h channel) r ∷ []) (told m.entered c.in_ok-loan.ensures.entered) in
@@ -86,12 +86,12 @@ invariant_of-self-2 c =
     (c.bury.ensures.state ∙ ap buried moves)
     (c.bury.ensures.departed ∙ ap (λ (s : Stored). keys_of (gone s.state c.bury.new.objects.stored.state)) moves)
     grown lent.flights c.bury.ensures.flights
-    c.bury.ensures.forgotten c.bury.ensures.known refl c.push_reserved.ensures.capacity
+    c.bury.ensures.forgotten c.bury.ensures.known refl c.push_reserved.ensures.room
     (subst (λ (i : Inside). length i.history + length i.flights.future.flights + 1 < i.room) (sym c.self.view_is) c.requires.place)
 
 pub returns-clause-entered : goal.returns-clause-entered
 returns-clause-entered c =
-    let old : Inside = record { objects = c.self.inside.objects; flights = c.self.inside.flights; worlds = c.self.inside.worlds; history = c.self.inside.journal.items; room = vec_capacity c.self.inside.journal; builds = c.self.inside.builds } in
+    let old : Inside = record { objects = c.self.inside.objects; flights = c.self.inside.flights; worlds = c.self.inside.worlds; history = c.self.inside.journal.items; room = c.self.inside.journal.room; builds = c.self.inside.builds } in
     let h = c.args.h in
     let channel = c.args.channel in
     let p = c.self.invariant in
@@ -104,7 +104,7 @@ returns-clause-entered c =
     let f = lent.picture in
     let next : Stored = moved old h channel p stands none f lent.shown actor in
     let moves : c.map_channel.new.objects.stored ≡ next = ap (λ (o : Objects). o.stored) c.in_ok-loan.ensures.objects ∙ ap (λ n. record old.objects.stored { state = changed_at h (map_channel channel n) old.objects.stored.state }) place in
-    let new : Inside = record { objects = c.bury.new.objects; flights = c.bury.new.flights; worlds = c.bury.new.worlds; history = c.push_reserved.new.self.items; room = vec_capacity c.push_reserved.new.self; builds = c.self.inside.builds } in
+    let new : Inside = record { objects = c.bury.new.objects; flights = c.bury.new.flights; worlds = c.bury.new.worlds; history = c.push_reserved.new.self.items; room = c.push_reserved.new.self.room; builds = c.self.inside.builds } in
     let told : (r : Reply) → r ≡ told_of m.loan → r ≡ told_of (loan_from f channel (length old.history + 1)) = λ r is. is ∙ ap told_of lent.loan_is in
     let grown : c.push_reserved.new.self.items ≡ old.history ++ Called actor (MapFrame h channel) (told_of (loan_from f channel (length old.history + 1))) ∷ [] =
     c.push_reserved.ensures.items ∙ ap (λ r. old.history ++ Called actor (MapFrame h channel) r ∷ []) (told m.entered c.in_ok-loan.ensures.entered) in
@@ -118,12 +118,12 @@ returns-clause-entered c =
     (c.bury.ensures.state ∙ ap buried moves)
     (c.bury.ensures.departed ∙ ap (λ (s : Stored). keys_of (gone s.state c.bury.new.objects.stored.state)) moves)
     grown lent.flights c.bury.ensures.flights
-    c.bury.ensures.forgotten c.bury.ensures.known refl c.push_reserved.ensures.capacity
+    c.bury.ensures.forgotten c.bury.ensures.known refl c.push_reserved.ensures.room
     notices))
 
 pub returns-clause-answered : goal.returns-clause-answered
 returns-clause-answered c =
-    let old : Inside = record { objects = c.self.inside.objects; flights = c.self.inside.flights; worlds = c.self.inside.worlds; history = c.self.inside.journal.items; room = vec_capacity c.self.inside.journal; builds = c.self.inside.builds } in
+    let old : Inside = record { objects = c.self.inside.objects; flights = c.self.inside.flights; worlds = c.self.inside.worlds; history = c.self.inside.journal.items; room = c.self.inside.journal.room; builds = c.self.inside.builds } in
     let h = c.args.h in
     let channel = c.args.channel in
     let p = c.self.invariant in
@@ -142,7 +142,7 @@ returns-clause-answered c =
 
 pub returns-clause-mapped : goal.returns-clause-mapped
 returns-clause-mapped c =
-    let old : Inside = record { objects = c.self.inside.objects; flights = c.self.inside.flights; worlds = c.self.inside.worlds; history = c.self.inside.journal.items; room = vec_capacity c.self.inside.journal; builds = c.self.inside.builds } in
+    let old : Inside = record { objects = c.self.inside.objects; flights = c.self.inside.flights; worlds = c.self.inside.worlds; history = c.self.inside.journal.items; room = c.self.inside.journal.room; builds = c.self.inside.builds } in
     let h = c.args.h in
     let channel = c.args.channel in
     let p = c.self.invariant in
@@ -155,7 +155,7 @@ returns-clause-mapped c =
     let f = lent.picture in
     let next : Stored = moved old h channel p stands none f lent.shown actor in
     let moves : c.map_channel.new.objects.stored ≡ next = ap (λ (o : Objects). o.stored) c.in_ok-loan.ensures.objects ∙ ap (λ n. record old.objects.stored { state = changed_at h (map_channel channel n) old.objects.stored.state }) place in
-    let new : Inside = record { objects = c.bury.new.objects; flights = c.bury.new.flights; worlds = c.bury.new.worlds; history = c.push_reserved.new.self.items; room = vec_capacity c.push_reserved.new.self; builds = c.self.inside.builds } in
+    let new : Inside = record { objects = c.bury.new.objects; flights = c.bury.new.flights; worlds = c.bury.new.worlds; history = c.push_reserved.new.self.items; room = c.push_reserved.new.self.room; builds = c.self.inside.builds } in
     let told : (r : Reply) → r ≡ told_of m.loan → r ≡ told_of (loan_from f channel (length old.history + 1)) = λ r is. is ∙ ap told_of lent.loan_is in
     let grown : c.push_reserved.new.self.items ≡ old.history ++ Called actor (MapFrame h channel) (told_of (loan_from f channel (length old.history + 1))) ∷ [] =
     c.push_reserved.ensures.items ∙ ap (λ r. old.history ++ Called actor (MapFrame h channel) r ∷ []) (told m.entered c.in_ok-loan.ensures.entered) in
@@ -163,7 +163,7 @@ returns-clause-mapped c =
 
 pub returns-clause-stands : goal.returns-clause-stands
 returns-clause-stands c =
-    let old : Inside = record { objects = c.self.inside.objects; flights = c.self.inside.flights; worlds = c.self.inside.worlds; history = c.self.inside.journal.items; room = vec_capacity c.self.inside.journal; builds = c.self.inside.builds } in
+    let old : Inside = record { objects = c.self.inside.objects; flights = c.self.inside.flights; worlds = c.self.inside.worlds; history = c.self.inside.journal.items; room = c.self.inside.journal.room; builds = c.self.inside.builds } in
     let h = c.args.h in
     let channel = c.args.channel in
     let p = c.self.invariant in
@@ -176,7 +176,7 @@ returns-clause-stands c =
     let f = lent.picture in
     let next : Stored = moved old h channel p stands none f lent.shown actor in
     let moves : c.map_channel.new.objects.stored ≡ next = ap (λ (o : Objects). o.stored) c.in_ok-loan.ensures.objects ∙ ap (λ n. record old.objects.stored { state = changed_at h (map_channel channel n) old.objects.stored.state }) place in
-    let new : Inside = record { objects = c.bury.new.objects; flights = c.bury.new.flights; worlds = c.bury.new.worlds; history = c.push_reserved.new.self.items; room = vec_capacity c.push_reserved.new.self; builds = c.self.inside.builds } in
+    let new : Inside = record { objects = c.bury.new.objects; flights = c.bury.new.flights; worlds = c.bury.new.worlds; history = c.push_reserved.new.self.items; room = c.push_reserved.new.self.room; builds = c.self.inside.builds } in
     let told : (r : Reply) → r ≡ told_of m.loan → r ≡ told_of (loan_from f channel (length old.history + 1)) = λ r is. is ∙ ap told_of lent.loan_is in
     let grown : c.push_reserved.new.self.items ≡ old.history ++ Called actor (MapFrame h channel) (told_of (loan_from f channel (length old.history + 1))) ∷ [] =
     c.push_reserved.ensures.items ∙ ap (λ r. old.history ++ Called actor (MapFrame h channel) r ∷ []) (told m.entered c.in_ok-loan.ensures.entered) in
@@ -187,12 +187,12 @@ returns-clause-stands c =
     (c.bury.ensures.state ∙ ap buried moves)
     (c.bury.ensures.departed ∙ ap (λ (s : Stored). keys_of (gone s.state c.bury.new.objects.stored.state)) moves)
     grown lent.flights c.bury.ensures.flights
-    c.bury.ensures.forgotten c.bury.ensures.known refl c.push_reserved.ensures.capacity
+    c.bury.ensures.forgotten c.bury.ensures.known refl c.push_reserved.ensures.room
     (subst IsKept c.frames.ensures.value c.are_kept.ensures)
 
 pub returns-clause-home : goal.returns-clause-home
 returns-clause-home c =
-    let old : Inside = record { objects = c.self.inside.objects; flights = c.self.inside.flights; worlds = c.self.inside.worlds; history = c.self.inside.journal.items; room = vec_capacity c.self.inside.journal; builds = c.self.inside.builds } in
+    let old : Inside = record { objects = c.self.inside.objects; flights = c.self.inside.flights; worlds = c.self.inside.worlds; history = c.self.inside.journal.items; room = c.self.inside.journal.room; builds = c.self.inside.builds } in
     let h = c.args.h in
     let channel = c.args.channel in
     let p = c.self.invariant in
@@ -205,7 +205,7 @@ returns-clause-home c =
     let f = lent.picture in
     let next : Stored = moved old h channel p stands none f lent.shown actor in
     let moves : c.map_channel.new.objects.stored ≡ next = ap (λ (o : Objects). o.stored) c.in_ok-loan.ensures.objects ∙ ap (λ n. record old.objects.stored { state = changed_at h (map_channel channel n) old.objects.stored.state }) place in
-    let new : Inside = record { objects = c.bury.new.objects; flights = c.bury.new.flights; worlds = c.bury.new.worlds; history = c.push_reserved.new.self.items; room = vec_capacity c.push_reserved.new.self; builds = c.self.inside.builds } in
+    let new : Inside = record { objects = c.bury.new.objects; flights = c.bury.new.flights; worlds = c.bury.new.worlds; history = c.push_reserved.new.self.items; room = c.push_reserved.new.self.room; builds = c.self.inside.builds } in
     let told : (r : Reply) → r ≡ told_of m.loan → r ≡ told_of (loan_from f channel (length old.history + 1)) = λ r is. is ∙ ap told_of lent.loan_is in
     let grown : c.push_reserved.new.self.items ≡ old.history ++ Called actor (MapFrame h channel) (told_of (loan_from f channel (length old.history + 1))) ∷ [] =
     c.push_reserved.ensures.items ∙ ap (λ r. old.history ++ Called actor (MapFrame h channel) r ∷ []) (told m.entered c.in_ok-loan.ensures.entered) in
@@ -217,5 +217,5 @@ returns-clause-home c =
     (c.bury.ensures.state ∙ ap buried moves)
     (c.bury.ensures.departed ∙ ap (λ (s : Stored). keys_of (gone s.state c.bury.new.objects.stored.state)) moves)
     grown lent.flights c.bury.ensures.flights
-    c.bury.ensures.forgotten c.bury.ensures.known refl c.push_reserved.ensures.capacity
+    c.bury.ensures.forgotten c.bury.ensures.known refl c.push_reserved.ensures.room
     ∙ ap (λ (i : Inside). i.flights.future.flights) c.self.view_is)) c.requires.home

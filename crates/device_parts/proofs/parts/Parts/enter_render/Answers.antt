@@ -1,6 +1,6 @@
 use Rattle.std.proofs.Common.{◌≡◌, ◌∙◌, ℕ, ◌+◌, ◌≤◌, ◌<◌, ◌^◌, ◌++◌, ◌∷◌, [], All, Some, Bool, true, false, arith, cond, length, refl, subst, sym, ap}
 use mir.Val.{bool_byte}
-use Rattle.std.specs.Prelude.{slice_index_or, vec_capacity}
+use Rattle.std.specs.Prelude.{slice_index_or}
 use Rattle.frame_future.specs.Flights.{Flying, begun}
 use Rattle.device_laws.proofs.FramesStandFacts.{fewer_kept}
 use Rattle.device_parts.proofs.RenderSteps.{home_more}
@@ -47,7 +47,7 @@ at_most_one false = omega arith
 
 pub load_of-requires-clause-granted : goal.load_of-requires-clause-granted
 load_of-requires-clause-granted c =
-    let old : Inside = record { objects = c.self.inside.objects; flights = c.self.inside.flights; worlds = c.self.inside.worlds; history = c.self.inside.journal.items; room = vec_capacity c.self.inside.journal; builds = c.self.inside.builds } in
+    let old : Inside = record { objects = c.self.inside.objects; flights = c.self.inside.flights; worlds = c.self.inside.worlds; history = c.self.inside.journal.items; room = c.self.inside.journal.room; builds = c.self.inside.builds } in
     let actor = c.args.actor in
     let f = c.args.frame in
     let p = c.self.invariant in
@@ -58,7 +58,7 @@ load_of-requires-clause-granted c =
 
 pub begin_kept-requires-clause-landed : goal.begin_kept-requires-clause-landed
 begin_kept-requires-clause-landed c =
-    let old : Inside = record { objects = c.self.inside.objects; flights = c.self.inside.flights; worlds = c.self.inside.worlds; history = c.self.inside.journal.items; room = vec_capacity c.self.inside.journal; builds = c.self.inside.builds } in
+    let old : Inside = record { objects = c.self.inside.objects; flights = c.self.inside.flights; worlds = c.self.inside.worlds; history = c.self.inside.journal.items; room = c.self.inside.journal.room; builds = c.self.inside.builds } in
     let actor = c.args.actor in
     let f = c.args.frame in
     let p = c.self.invariant in
@@ -79,7 +79,7 @@ begin_kept-requires-clause-landed c =
 
 pub begin_kept-requires-clause-unmapped : goal.begin_kept-requires-clause-unmapped
 begin_kept-requires-clause-unmapped c =
-    let old : Inside = record { objects = c.self.inside.objects; flights = c.self.inside.flights; worlds = c.self.inside.worlds; history = c.self.inside.journal.items; room = vec_capacity c.self.inside.journal; builds = c.self.inside.builds } in
+    let old : Inside = record { objects = c.self.inside.objects; flights = c.self.inside.flights; worlds = c.self.inside.worlds; history = c.self.inside.journal.items; room = c.self.inside.journal.room; builds = c.self.inside.builds } in
     let actor = c.args.actor in
     let f = c.args.frame in
     let p = c.self.invariant in
@@ -100,7 +100,7 @@ begin_kept-requires-clause-unmapped c =
 
 pub begin_kept-requires-clause-later : goal.begin_kept-requires-clause-later
 begin_kept-requires-clause-later c =
-    let old : Inside = record { objects = c.self.inside.objects; flights = c.self.inside.flights; worlds = c.self.inside.worlds; history = c.self.inside.journal.items; room = vec_capacity c.self.inside.journal; builds = c.self.inside.builds } in
+    let old : Inside = record { objects = c.self.inside.objects; flights = c.self.inside.flights; worlds = c.self.inside.worlds; history = c.self.inside.journal.items; room = c.self.inside.journal.room; builds = c.self.inside.builds } in
     let actor = c.args.actor in
     let f = c.args.frame in
     let p = c.self.invariant in
@@ -121,7 +121,7 @@ begin_kept-requires-clause-later c =
 
 pub show-requires : goal.show-requires
 show-requires c =
-    let old : Inside = record { objects = c.self.inside.objects; flights = c.self.inside.flights; worlds = c.self.inside.worlds; history = c.self.inside.journal.items; room = vec_capacity c.self.inside.journal; builds = c.self.inside.builds } in
+    let old : Inside = record { objects = c.self.inside.objects; flights = c.self.inside.flights; worlds = c.self.inside.worlds; history = c.self.inside.journal.items; room = c.self.inside.journal.room; builds = c.self.inside.builds } in
     let actor = c.args.actor in
     let f = c.args.frame in
     let p = c.self.invariant in
@@ -132,7 +132,7 @@ show-requires c =
 
 pub hold_reach-requires-clause-flies : goal.hold_reach-requires-clause-flies
 hold_reach-requires-clause-flies c =
-    let old : Inside = record { objects = c.self.inside.objects; flights = c.self.inside.flights; worlds = c.self.inside.worlds; history = c.self.inside.journal.items; room = vec_capacity c.self.inside.journal; builds = c.self.inside.builds } in
+    let old : Inside = record { objects = c.self.inside.objects; flights = c.self.inside.flights; worlds = c.self.inside.worlds; history = c.self.inside.journal.items; room = c.self.inside.journal.room; builds = c.self.inside.builds } in
     let actor = c.args.actor in
     let f = c.args.frame in
     let p = c.self.invariant in
@@ -157,7 +157,7 @@ hold_reach-requires-clause-flies c =
 
 pub hold_reach-requires-clause-there : goal.hold_reach-requires-clause-there
 hold_reach-requires-clause-there c =
-    let old : Inside = record { objects = c.self.inside.objects; flights = c.self.inside.flights; worlds = c.self.inside.worlds; history = c.self.inside.journal.items; room = vec_capacity c.self.inside.journal; builds = c.self.inside.builds } in
+    let old : Inside = record { objects = c.self.inside.objects; flights = c.self.inside.flights; worlds = c.self.inside.worlds; history = c.self.inside.journal.items; room = c.self.inside.journal.room; builds = c.self.inside.builds } in
     let actor = c.args.actor in
     let f = c.args.frame in
     let p = c.self.invariant in
@@ -182,7 +182,7 @@ hold_reach-requires-clause-there c =
 
 pub hold_reach-requires-clause-few : goal.hold_reach-requires-clause-few
 hold_reach-requires-clause-few c =
-    let old : Inside = record { objects = c.self.inside.objects; flights = c.self.inside.flights; worlds = c.self.inside.worlds; history = c.self.inside.journal.items; room = vec_capacity c.self.inside.journal; builds = c.self.inside.builds } in
+    let old : Inside = record { objects = c.self.inside.objects; flights = c.self.inside.flights; worlds = c.self.inside.worlds; history = c.self.inside.journal.items; room = c.self.inside.journal.room; builds = c.self.inside.builds } in
     let actor = c.args.actor in
     let f = c.args.frame in
     let p = c.self.invariant in
@@ -216,7 +216,7 @@ overflow_add-self c =
 
 pub bury-requires-clause-ranked : goal.bury-requires-clause-ranked
 bury-requires-clause-ranked c =
-    let old : Inside = record { objects = c.self.inside.objects; flights = c.self.inside.flights; worlds = c.self.inside.worlds; history = c.self.inside.journal.items; room = vec_capacity c.self.inside.journal; builds = c.self.inside.builds } in
+    let old : Inside = record { objects = c.self.inside.objects; flights = c.self.inside.flights; worlds = c.self.inside.worlds; history = c.self.inside.journal.items; room = c.self.inside.journal.room; builds = c.self.inside.builds } in
     let actor = c.args.actor in
     let f = c.args.frame in
     let p = c.self.invariant in
@@ -240,7 +240,7 @@ bury-requires-clause-ranked c =
 
 pub bury-requires-clause-none : goal.bury-requires-clause-none
 bury-requires-clause-none c =
-    let old : Inside = record { objects = c.self.inside.objects; flights = c.self.inside.flights; worlds = c.self.inside.worlds; history = c.self.inside.journal.items; room = vec_capacity c.self.inside.journal; builds = c.self.inside.builds } in
+    let old : Inside = record { objects = c.self.inside.objects; flights = c.self.inside.flights; worlds = c.self.inside.worlds; history = c.self.inside.journal.items; room = c.self.inside.journal.room; builds = c.self.inside.builds } in
     let actor = c.args.actor in
     let f = c.args.frame in
     let p = c.self.invariant in
@@ -264,7 +264,7 @@ bury-requires-clause-none c =
 
 pub invariant_of-self-2 : goal.invariant_of-self-2
 invariant_of-self-2 c =
-    let old : Inside = record { objects = c.self.inside.objects; flights = c.self.inside.flights; worlds = c.self.inside.worlds; history = c.self.inside.journal.items; room = vec_capacity c.self.inside.journal; builds = c.self.inside.builds } in
+    let old : Inside = record { objects = c.self.inside.objects; flights = c.self.inside.flights; worlds = c.self.inside.worlds; history = c.self.inside.journal.items; room = c.self.inside.journal.room; builds = c.self.inside.builds } in
     let actor = c.args.actor in
     let f = c.args.frame in
     let p = c.self.invariant in
@@ -293,7 +293,7 @@ invariant_of-self-2 c =
     let flown = λ (is : c.bury.new.flights ≡ with_future c.begin_kept.new.flights (without_pictures c.begin_kept.new.flights.future c.bury.new.objects.departed)).
     is ∙ ap (λ (b : Books Load). with_future b (without_pictures b.future c.bury.new.objects.departed)) begun in
     rendered_parts old actor f p legal counted_old load t takes once shows within
-    (record { objects = c.bury.new.objects; flights = c.bury.new.flights; worlds = c.bury.new.worlds; history = c.push_reserved.new.self.items; room = vec_capacity c.push_reserved.new.self; builds = c.self.inside.builds + c.from.result }) c.begin_kept.new.worlds c.is_some-built.result
+    (record { objects = c.bury.new.objects; flights = c.bury.new.flights; worlds = c.bury.new.worlds; history = c.push_reserved.new.self.items; room = c.push_reserved.new.self.room; builds = c.self.inside.builds + c.from.result }) c.begin_kept.new.worlds c.is_some-built.result
     (subst CountsItsObjects (c.store.ensures ∙ moves) c.counts_its_objects-2.ensures)
     (subst CountsItsObjects c.store-2.ensures c.counts_its_objects-3.ensures)
     (subst (λ s. IsLeft s c.bury.new.objects.stored) moves c.bury.ensures.left)
@@ -302,12 +302,12 @@ invariant_of-self-2 c =
     c.push_reserved.ensures.items (flown c.bury.ensures.flights)
     (c.in_ok-begin_kept.ensures.known old.history actor f p.rest.legal wanted_after p.kept)
     (c.in_ok-begin_kept.ensures.shown old.history f wanted_after p.shown)
-    c.bury.ensures.forgotten c.bury.ensures.known counts exactly c.push_reserved.ensures.capacity
+    c.bury.ensures.forgotten c.bury.ensures.known counts exactly c.push_reserved.ensures.room
     stands (subst (λ (i : Inside). length i.history + length i.flights.future.flights + 2 < i.room) (sym c.self.view_is) c.requires.places)
 
 pub returns-clause-entered : goal.returns-clause-entered
 returns-clause-entered c =
-    let old : Inside = record { objects = c.self.inside.objects; flights = c.self.inside.flights; worlds = c.self.inside.worlds; history = c.self.inside.journal.items; room = vec_capacity c.self.inside.journal; builds = c.self.inside.builds } in
+    let old : Inside = record { objects = c.self.inside.objects; flights = c.self.inside.flights; worlds = c.self.inside.worlds; history = c.self.inside.journal.items; room = c.self.inside.journal.room; builds = c.self.inside.builds } in
     let actor = c.args.actor in
     let f = c.args.frame in
     let p = c.self.invariant in
@@ -334,9 +334,9 @@ returns-clause-entered c =
     let begun = c.in_ok-begin_kept.ensures.begun in
     let flown = λ (is : c.bury.new.flights ≡ with_future c.begin_kept.new.flights (without_pictures c.begin_kept.new.flights.future c.bury.new.objects.departed)).
     is ∙ ap (λ (b : Books Load). with_future b (without_pictures b.future c.bury.new.objects.departed)) begun in
-    subst (λ (before : Inside). HasEntered actor (RenderFrame f) reply.Done before (record { objects = c.bury.new.objects; flights = c.bury.new.flights; worlds = c.bury.new.worlds; history = c.push_reserved.new.self.items; room = vec_capacity c.push_reserved.new.self; builds = c.self.inside.builds + c.from.result })) c.self.view_is
+    subst (λ (before : Inside). HasEntered actor (RenderFrame f) reply.Done before (record { objects = c.bury.new.objects; flights = c.bury.new.flights; worlds = c.bury.new.worlds; history = c.push_reserved.new.self.items; room = c.push_reserved.new.self.room; builds = c.self.inside.builds + c.from.result })) c.self.view_is
     (rendered_enters old actor f p legal counted_old load t takes once shows within
-    (record { objects = c.bury.new.objects; flights = c.bury.new.flights; worlds = c.bury.new.worlds; history = c.push_reserved.new.self.items; room = vec_capacity c.push_reserved.new.self; builds = c.self.inside.builds + c.from.result }) c.begin_kept.new.worlds c.is_some-built.result
+    (record { objects = c.bury.new.objects; flights = c.bury.new.flights; worlds = c.bury.new.worlds; history = c.push_reserved.new.self.items; room = c.push_reserved.new.self.room; builds = c.self.inside.builds + c.from.result }) c.begin_kept.new.worlds c.is_some-built.result
     (subst CountsItsObjects (c.store.ensures ∙ moves) c.counts_its_objects-2.ensures)
     (subst CountsItsObjects c.store-2.ensures c.counts_its_objects-3.ensures)
     (subst (λ s. IsLeft s c.bury.new.objects.stored) moves c.bury.ensures.left)
@@ -345,12 +345,12 @@ returns-clause-entered c =
     c.push_reserved.ensures.items (flown c.bury.ensures.flights)
     (c.in_ok-begin_kept.ensures.known old.history actor f p.rest.legal wanted_after p.kept)
     (c.in_ok-begin_kept.ensures.shown old.history f wanted_after p.shown)
-    c.bury.ensures.forgotten c.bury.ensures.known counts exactly c.push_reserved.ensures.capacity
+    c.bury.ensures.forgotten c.bury.ensures.known counts exactly c.push_reserved.ensures.room
     (c.bury.ensures.notices ∙ ap (λ (s : Stored). filter_map end_of_object (gone s.state c.bury.new.objects.stored.state)) moves))
 
 pub returns-clause-begun : goal.returns-clause-begun
 returns-clause-begun c =
-    let old : Inside = record { objects = c.self.inside.objects; flights = c.self.inside.flights; worlds = c.self.inside.worlds; history = c.self.inside.journal.items; room = vec_capacity c.self.inside.journal; builds = c.self.inside.builds } in
+    let old : Inside = record { objects = c.self.inside.objects; flights = c.self.inside.flights; worlds = c.self.inside.worlds; history = c.self.inside.journal.items; room = c.self.inside.journal.room; builds = c.self.inside.builds } in
     let actor = c.args.actor in
     let f = c.args.frame in
     let p = c.self.invariant in
@@ -377,9 +377,9 @@ returns-clause-begun c =
     let begun = c.in_ok-begin_kept.ensures.begun in
     let flown = λ (is : c.bury.new.flights ≡ with_future c.begin_kept.new.flights (without_pictures c.begin_kept.new.flights.future c.bury.new.objects.departed)).
     is ∙ ap (λ (b : Books Load). with_future b (without_pictures b.future c.bury.new.objects.departed)) begun in
-    subst (λ (before : Inside). HasBegun f before (record { objects = c.bury.new.objects; flights = c.bury.new.flights; worlds = c.bury.new.worlds; history = c.push_reserved.new.self.items; room = vec_capacity c.push_reserved.new.self; builds = c.self.inside.builds + c.from.result })) c.self.view_is
+    subst (λ (before : Inside). HasBegun f before (record { objects = c.bury.new.objects; flights = c.bury.new.flights; worlds = c.bury.new.worlds; history = c.push_reserved.new.self.items; room = c.push_reserved.new.self.room; builds = c.self.inside.builds + c.from.result })) c.self.view_is
     (rendered_begins old actor f p legal counted_old load t takes once shows within
-    (record { objects = c.bury.new.objects; flights = c.bury.new.flights; worlds = c.bury.new.worlds; history = c.push_reserved.new.self.items; room = vec_capacity c.push_reserved.new.self; builds = c.self.inside.builds + c.from.result }) c.begin_kept.new.worlds c.is_some-built.result
+    (record { objects = c.bury.new.objects; flights = c.bury.new.flights; worlds = c.bury.new.worlds; history = c.push_reserved.new.self.items; room = c.push_reserved.new.self.room; builds = c.self.inside.builds + c.from.result }) c.begin_kept.new.worlds c.is_some-built.result
     (subst CountsItsObjects (c.store.ensures ∙ moves) c.counts_its_objects-2.ensures)
     (subst CountsItsObjects c.store-2.ensures c.counts_its_objects-3.ensures)
     (subst (λ s. IsLeft s c.bury.new.objects.stored) moves c.bury.ensures.left)
@@ -388,11 +388,11 @@ returns-clause-begun c =
     c.push_reserved.ensures.items (flown c.bury.ensures.flights)
     (c.in_ok-begin_kept.ensures.known old.history actor f p.rest.legal wanted_after p.kept)
     (c.in_ok-begin_kept.ensures.shown old.history f wanted_after p.shown)
-    c.bury.ensures.forgotten c.bury.ensures.known counts exactly c.push_reserved.ensures.capacity)
+    c.bury.ensures.forgotten c.bury.ensures.known counts exactly c.push_reserved.ensures.room)
 
 pub returns-clause-stands : goal.returns-clause-stands
 returns-clause-stands c =
-    let old : Inside = record { objects = c.self.inside.objects; flights = c.self.inside.flights; worlds = c.self.inside.worlds; history = c.self.inside.journal.items; room = vec_capacity c.self.inside.journal; builds = c.self.inside.builds } in
+    let old : Inside = record { objects = c.self.inside.objects; flights = c.self.inside.flights; worlds = c.self.inside.worlds; history = c.self.inside.journal.items; room = c.self.inside.journal.room; builds = c.self.inside.builds } in
     let actor = c.args.actor in
     let f = c.args.frame in
     let p = c.self.invariant in
@@ -421,7 +421,7 @@ returns-clause-stands c =
     let flown = λ (is : c.bury.new.flights ≡ with_future c.begin_kept.new.flights (without_pictures c.begin_kept.new.flights.future c.bury.new.objects.departed)).
     is ∙ ap (λ (b : Books Load). with_future b (without_pictures b.future c.bury.new.objects.departed)) begun in
     rendered_stands old actor f p legal counted_old load t takes once shows within
-    (record { objects = c.bury.new.objects; flights = c.bury.new.flights; worlds = c.bury.new.worlds; history = c.push_reserved.new.self.items; room = vec_capacity c.push_reserved.new.self; builds = c.self.inside.builds + c.from.result }) c.begin_kept.new.worlds c.is_some-built.result
+    (record { objects = c.bury.new.objects; flights = c.bury.new.flights; worlds = c.bury.new.worlds; history = c.push_reserved.new.self.items; room = c.push_reserved.new.self.room; builds = c.self.inside.builds + c.from.result }) c.begin_kept.new.worlds c.is_some-built.result
     (subst CountsItsObjects (c.store.ensures ∙ moves) c.counts_its_objects-2.ensures)
     (subst CountsItsObjects c.store-2.ensures c.counts_its_objects-3.ensures)
     (subst (λ s. IsLeft s c.bury.new.objects.stored) moves c.bury.ensures.left)
@@ -430,7 +430,7 @@ returns-clause-stands c =
     c.push_reserved.ensures.items (flown c.bury.ensures.flights)
     (c.in_ok-begin_kept.ensures.known old.history actor f p.rest.legal wanted_after p.kept)
     (c.in_ok-begin_kept.ensures.shown old.history f wanted_after p.shown)
-    c.bury.ensures.forgotten c.bury.ensures.known counts exactly c.push_reserved.ensures.capacity
+    c.bury.ensures.forgotten c.bury.ensures.known counts exactly c.push_reserved.ensures.room
     stands
 
 pub returns-clause-home : goal.returns-clause-home

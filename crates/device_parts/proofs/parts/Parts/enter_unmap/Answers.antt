@@ -1,5 +1,5 @@
 use Rattle.std.proofs.Common.{◌≡◌, ◌∙◌, ℕ, true, ◌+◌, ◌<◌, ◌++◌, ◌∷◌, [], None, Some, length, refl, sym, ap, subst}
-use Rattle.std.specs.Prelude.{slice_index_or, vec_capacity}
+use Rattle.std.specs.Prelude.{slice_index_or}
 use Rattle.std.specs.List.{filter_map}
 use Rattle.std.specs.Map.{keys_of}
 use Rattle.flight_books.specs.Kept.{Books, with_future}
@@ -33,14 +33,14 @@ use Rattle.device_parts.proofs.parts.Parts.enter_unmap.Goals as goal
 
 pub unreachable-requires : goal.unreachable-requires
 unreachable-requires c =
-    let old : Inside = record { objects = c.self.inside.objects; flights = c.self.inside.flights; worlds = c.self.inside.worlds; history = c.self.inside.journal.items; room = vec_capacity c.self.inside.journal; builds = c.self.inside.builds } in
+    let old : Inside = record { objects = c.self.inside.objects; flights = c.self.inside.flights; worlds = c.self.inside.worlds; history = c.self.inside.journal.items; room = c.self.inside.journal.room; builds = c.self.inside.builds } in
     let lent = lent_channel old c.args.h c.args.number c.self.invariant (subst IsStanding (sym c.self.view_is) c.requires.stands)
     (subst (λ (i : Inside). refusal (after i.history) (UnmapFrame c.args.h c.args.number) ≡ None) (sym c.self.view_is) c.requires.out) in
     c.in_default.ensures.none lent.0 (subst (λ (i : Inside). loan_in (mapped_at (after i.history) c.args.h) lent.0 ≡ Some c.args.number) c.self.view_is lent.1)
 
 pub bury-requires-clause-ranked : goal.bury-requires-clause-ranked
 bury-requires-clause-ranked c =
-    let old : Inside = record { objects = c.self.inside.objects; flights = c.self.inside.flights; worlds = c.self.inside.worlds; history = c.self.inside.journal.items; room = vec_capacity c.self.inside.journal; builds = c.self.inside.builds } in
+    let old : Inside = record { objects = c.self.inside.objects; flights = c.self.inside.flights; worlds = c.self.inside.worlds; history = c.self.inside.journal.items; room = c.self.inside.journal.room; builds = c.self.inside.builds } in
     let legal = subst (λ (i : Inside). Legal (i.history ++ Called c.args.actor (UnmapFrame c.args.h c.args.number) reply.Done ∷ [])) (sym c.self.view_is) c.requires.legal in
     let next : Stored = moved old c.args.actor c.args.h c.args.number c.self.invariant legal in
     let moves : c.unmap_channel.new.self.stored ≡ next = ap (λ (o : Objects). o.stored) c.unmap_channel.ensures in
@@ -48,8 +48,8 @@ bury-requires-clause-ranked c =
 
 pub invariant_of-self : goal.invariant_of-self
 invariant_of-self c =
-    let old : Inside = record { objects = c.self.inside.objects; flights = c.self.inside.flights; worlds = c.self.inside.worlds; history = c.self.inside.journal.items; room = vec_capacity c.self.inside.journal; builds = c.self.inside.builds } in
-    let new : Inside = record { objects = c.bury.new.objects; flights = c.bury.new.flights; worlds = c.bury.new.worlds; history = c.push_reserved.new.self.items; room = vec_capacity c.push_reserved.new.self; builds = c.self.inside.builds } in
+    let old : Inside = record { objects = c.self.inside.objects; flights = c.self.inside.flights; worlds = c.self.inside.worlds; history = c.self.inside.journal.items; room = c.self.inside.journal.room; builds = c.self.inside.builds } in
+    let new : Inside = record { objects = c.bury.new.objects; flights = c.bury.new.flights; worlds = c.bury.new.worlds; history = c.push_reserved.new.self.items; room = c.push_reserved.new.self.room; builds = c.self.inside.builds } in
     let legal = subst (λ (i : Inside). Legal (i.history ++ Called c.args.actor (UnmapFrame c.args.h c.args.number) reply.Done ∷ [])) (sym c.self.view_is) c.requires.legal in
     let next : Stored = moved old c.args.actor c.args.h c.args.number c.self.invariant legal in
     let moves : c.unmap_channel.new.self.stored ≡ next = ap (λ (o : Objects). o.stored) c.unmap_channel.ensures in
@@ -69,13 +69,13 @@ invariant_of-self c =
     (ap (λ (b : Books Load). b.cargo) flights) (ap (λ (b : Books Load). b.over) flights)
     (stay_known old.history (Called c.args.actor (UnmapFrame c.args.h c.args.number) reply.Done) (is_there old.history) (reach_at old.worlds) refl (λ objects. refl) c.self.invariant.kept)
     c.self.invariant.shown
-    c.bury.ensures.forgotten c.bury.ensures.known refl c.push_reserved.ensures.capacity
+    c.bury.ensures.forgotten c.bury.ensures.known refl c.push_reserved.ensures.room
     (subst IsStanding (sym c.self.view_is) c.requires.stands) (subst (λ (i : Inside). length i.history + length i.flights.future.flights + 1 < i.room) (sym c.self.view_is) c.requires.place)
 
 pub returns-clause-entered : goal.returns-clause-entered
 returns-clause-entered c =
-    let old : Inside = record { objects = c.self.inside.objects; flights = c.self.inside.flights; worlds = c.self.inside.worlds; history = c.self.inside.journal.items; room = vec_capacity c.self.inside.journal; builds = c.self.inside.builds } in
-    let new : Inside = record { objects = c.bury.new.objects; flights = c.bury.new.flights; worlds = c.bury.new.worlds; history = c.push_reserved.new.self.items; room = vec_capacity c.push_reserved.new.self; builds = c.self.inside.builds } in
+    let old : Inside = record { objects = c.self.inside.objects; flights = c.self.inside.flights; worlds = c.self.inside.worlds; history = c.self.inside.journal.items; room = c.self.inside.journal.room; builds = c.self.inside.builds } in
+    let new : Inside = record { objects = c.bury.new.objects; flights = c.bury.new.flights; worlds = c.bury.new.worlds; history = c.push_reserved.new.self.items; room = c.push_reserved.new.self.room; builds = c.self.inside.builds } in
     let legal = subst (λ (i : Inside). Legal (i.history ++ Called c.args.actor (UnmapFrame c.args.h c.args.number) reply.Done ∷ [])) (sym c.self.view_is) c.requires.legal in
     let next : Stored = moved old c.args.actor c.args.h c.args.number c.self.invariant legal in
     let moves : c.unmap_channel.new.self.stored ≡ next = ap (λ (o : Objects). o.stored) c.unmap_channel.ensures in
@@ -97,13 +97,13 @@ returns-clause-entered c =
     (ap (λ (b : Books Load). b.cargo) flights) (ap (λ (b : Books Load). b.over) flights)
     (stay_known old.history (Called c.args.actor (UnmapFrame c.args.h c.args.number) reply.Done) (is_there old.history) (reach_at old.worlds) refl (λ objects. refl) c.self.invariant.kept)
     c.self.invariant.shown
-    c.bury.ensures.forgotten c.bury.ensures.known refl c.push_reserved.ensures.capacity
+    c.bury.ensures.forgotten c.bury.ensures.known refl c.push_reserved.ensures.room
     notices)
 
 pub returns-clause-stands : goal.returns-clause-stands
 returns-clause-stands c =
-    let old : Inside = record { objects = c.self.inside.objects; flights = c.self.inside.flights; worlds = c.self.inside.worlds; history = c.self.inside.journal.items; room = vec_capacity c.self.inside.journal; builds = c.self.inside.builds } in
-    let new : Inside = record { objects = c.bury.new.objects; flights = c.bury.new.flights; worlds = c.bury.new.worlds; history = c.push_reserved.new.self.items; room = vec_capacity c.push_reserved.new.self; builds = c.self.inside.builds } in
+    let old : Inside = record { objects = c.self.inside.objects; flights = c.self.inside.flights; worlds = c.self.inside.worlds; history = c.self.inside.journal.items; room = c.self.inside.journal.room; builds = c.self.inside.builds } in
+    let new : Inside = record { objects = c.bury.new.objects; flights = c.bury.new.flights; worlds = c.bury.new.worlds; history = c.push_reserved.new.self.items; room = c.push_reserved.new.self.room; builds = c.self.inside.builds } in
     let legal = subst (λ (i : Inside). Legal (i.history ++ Called c.args.actor (UnmapFrame c.args.h c.args.number) reply.Done ∷ [])) (sym c.self.view_is) c.requires.legal in
     let next : Stored = moved old c.args.actor c.args.h c.args.number c.self.invariant legal in
     let moves : c.unmap_channel.new.self.stored ≡ next = ap (λ (o : Objects). o.stored) c.unmap_channel.ensures in
@@ -127,7 +127,7 @@ returns-clause-stands c =
     (ap (λ (b : Books Load). b.cargo) flights) (ap (λ (b : Books Load). b.over) flights)
     (stay_known old.history (Called c.args.actor (UnmapFrame c.args.h c.args.number) reply.Done) (is_there old.history) (reach_at old.worlds) refl (λ objects. refl) c.self.invariant.kept)
     c.self.invariant.shown
-    c.bury.ensures.forgotten c.bury.ensures.known refl c.push_reserved.ensures.capacity)
+    c.bury.ensures.forgotten c.bury.ensures.known refl c.push_reserved.ensures.room)
     (subst IsStanding (sym c.self.view_is) c.requires.stands)
 
 pub returns-clause-home : goal.returns-clause-home

@@ -1,5 +1,4 @@
 use Rattle.std.proofs.Common.{◌≡◌, ◌∙◌, None, false, true, refl, sym, ap, subst}
-use Rattle.std.specs.Prelude.{vec_capacity}
 use Rattle.std.specs.Option.{IsSomeAnd, is_some}
 use Rattle.frame_future.specs.Flights.{Flying, is_stopped}
 use Rattle.frame_future.specs.Future.{AreHome, Future, flight_of}
@@ -14,7 +13,7 @@ use Rattle.device_parts.proofs.parts.Parts.lend_flight.Goals as goal
 
 pub returns-in_default : goal.returns-in_default
 returns-in_default c =
-    let old : Inside = record { objects = c.self.inside.objects; flights = c.self.inside.flights; worlds = c.self.inside.worlds; history = c.self.inside.journal.items; room = vec_capacity c.self.inside.journal; builds = c.self.inside.builds } in
+    let old : Inside = record { objects = c.self.inside.objects; flights = c.self.inside.flights; worlds = c.self.inside.worlds; history = c.self.inside.journal.items; room = c.self.inside.journal.room; builds = c.self.inside.builds } in
     let none : flight_of old.flights.future c.args.h ≡ None = ap (λ (s : Future). flight_of s c.args.h) (sym c.frames-frames.ensures.value)
     ∙ not_flying c.frames-frames.result.now c.args.h (λ t is. c.in_default.not-Flight t (c.phase_of.ensures.value ∙ is)) in
     record {
@@ -28,7 +27,7 @@ returns-in_default c =
 
 pub lend-claims-requires : goal.lend-claims-requires
 lend-claims-requires c =
-    let old : Inside = record { objects = c.self.inside.objects; flights = c.self.inside.flights; worlds = c.self.inside.worlds; history = c.self.inside.journal.items; room = vec_capacity c.self.inside.journal; builds = c.self.inside.builds } in
+    let old : Inside = record { objects = c.self.inside.objects; flights = c.self.inside.flights; worlds = c.self.inside.worlds; history = c.self.inside.journal.items; room = c.self.inside.journal.room; builds = c.self.inside.builds } in
     let x : IsLoanable old c.args.h c.in-Flight.ticket =
     loanable old c.frames-frames.result.now c.args.h c.in-Flight.ticket c.self.invariant c.frames-frames.ensures.books (subst (λ (i : Inside). AreHome i.flights.future) (sym c.self.view_is) c.requires.home)
     c.frames-frames.ensures.value c.phase_of.ensures.kept (sym c.phase_of.ensures.value ∙ c.in-Flight.is) in
@@ -36,7 +35,7 @@ lend-claims-requires c =
 
 pub take_scene-scene-requires : goal.take_scene-scene-requires
 take_scene-scene-requires c =
-    let old : Inside = record { objects = c.self.inside.objects; flights = c.self.inside.flights; worlds = c.self.inside.worlds; history = c.self.inside.journal.items; room = vec_capacity c.self.inside.journal; builds = c.self.inside.builds } in
+    let old : Inside = record { objects = c.self.inside.objects; flights = c.self.inside.flights; worlds = c.self.inside.worlds; history = c.self.inside.journal.items; room = c.self.inside.journal.room; builds = c.self.inside.builds } in
     let x : IsLoanable old c.args.h c.in-Flight.ticket =
     loanable old c.frames-frames.result.now c.args.h c.in-Flight.ticket c.self.invariant c.frames-frames.ensures.books (subst (λ (i : Inside). AreHome i.flights.future) (sym c.self.view_is) c.requires.home)
     c.frames-frames.ensures.value c.phase_of.ensures.kept (sym c.phase_of.ensures.value ∙ c.in-Flight.is) in
@@ -44,7 +43,7 @@ take_scene-scene-requires c =
 
 pub invariant_of-self : goal.invariant_of-self
 invariant_of-self c =
-    let old : Inside = record { objects = c.self.inside.objects; flights = c.self.inside.flights; worlds = c.self.inside.worlds; history = c.self.inside.journal.items; room = vec_capacity c.self.inside.journal; builds = c.self.inside.builds } in
+    let old : Inside = record { objects = c.self.inside.objects; flights = c.self.inside.flights; worlds = c.self.inside.worlds; history = c.self.inside.journal.items; room = c.self.inside.journal.room; builds = c.self.inside.builds } in
     let x : IsLoanable old c.args.h c.in-Flight.ticket =
     loanable old c.frames-frames.result.now c.args.h c.in-Flight.ticket c.self.invariant c.frames-frames.ensures.books (subst (λ (i : Inside). AreHome i.flights.future) (sym c.self.view_is) c.requires.home)
     c.frames-frames.ensures.value c.phase_of.ensures.kept (sym c.phase_of.ensures.value ∙ c.in-Flight.is) in
@@ -52,17 +51,17 @@ invariant_of-self c =
 
 pub returns-clause-lent : goal.returns-clause-lent
 returns-clause-lent c =
-    let old : Inside = record { objects = c.self.inside.objects; flights = c.self.inside.flights; worlds = c.self.inside.worlds; history = c.self.inside.journal.items; room = vec_capacity c.self.inside.journal; builds = c.self.inside.builds } in
+    let old : Inside = record { objects = c.self.inside.objects; flights = c.self.inside.flights; worlds = c.self.inside.worlds; history = c.self.inside.journal.items; room = c.self.inside.journal.room; builds = c.self.inside.builds } in
     let x : IsLoanable old c.args.h c.in-Flight.ticket =
     loanable old c.frames-frames.result.now c.args.h c.in-Flight.ticket c.self.invariant c.frames-frames.ensures.books (subst (λ (i : Inside). AreHome i.flights.future) (sym c.self.view_is) c.requires.home)
     c.frames-frames.ensures.value c.phase_of.ensures.kept (sym c.phase_of.ensures.value ∙ c.in-Flight.is) in
-    subst (λ (before : Inside). HasLent c.args.h before (record { objects = c.self.inside.objects; flights = c.take_scene-scene.new.flights; worlds = c.self.inside.worlds; history = c.self.inside.journal.items; room = vec_capacity c.self.inside.journal; builds = c.self.inside.builds }) c.into_work.result) c.self.view_is
+    subst (λ (before : Inside). HasLent c.args.h before (record { objects = c.self.inside.objects; flights = c.take_scene-scene.new.flights; worlds = c.self.inside.worlds; history = c.self.inside.journal.items; room = c.self.inside.journal.room; builds = c.self.inside.builds }) c.into_work.result) c.self.view_is
     (has_lent old c.args.h c.in-Flight.ticket c.self.invariant c.frames-frames.ensures.books x c.lend-claims.new.self c.take_scene-scene.new.flights c.take_scene-scene.result c.lend-claims.ensures.lent c.take_scene-scene.ensures
     c.lend-claims.result.0 c.lend-claims.result.1 c.into_work.result c.lend-claims.ensures.held c.into_work.ensures.claims c.into_work.ensures.seat c.into_work.ensures.scene)
 
 pub returns-clause-exactly : goal.returns-clause-exactly
 returns-clause-exactly c = λ stands.
-    let old : Inside = record { objects = c.self.inside.objects; flights = c.self.inside.flights; worlds = c.self.inside.worlds; history = c.self.inside.journal.items; room = vec_capacity c.self.inside.journal; builds = c.self.inside.builds } in
+    let old : Inside = record { objects = c.self.inside.objects; flights = c.self.inside.flights; worlds = c.self.inside.worlds; history = c.self.inside.journal.items; room = c.self.inside.journal.room; builds = c.self.inside.builds } in
     let x : IsLoanable old c.args.h c.in-Flight.ticket =
     loanable old c.frames-frames.result.now c.args.h c.in-Flight.ticket c.self.invariant c.frames-frames.ensures.books (subst (λ (i : Inside). AreHome i.flights.future) (sym c.self.view_is) c.requires.home)
     c.frames-frames.ensures.value c.phase_of.ensures.kept (sym c.phase_of.ensures.value ∙ c.in-Flight.is) in
@@ -71,7 +70,7 @@ returns-clause-exactly c = λ stands.
 
 pub returns-clause-stands : goal.returns-clause-stands
 returns-clause-stands c = λ stands.
-    let old : Inside = record { objects = c.self.inside.objects; flights = c.self.inside.flights; worlds = c.self.inside.worlds; history = c.self.inside.journal.items; room = vec_capacity c.self.inside.journal; builds = c.self.inside.builds } in
+    let old : Inside = record { objects = c.self.inside.objects; flights = c.self.inside.flights; worlds = c.self.inside.worlds; history = c.self.inside.journal.items; room = c.self.inside.journal.room; builds = c.self.inside.builds } in
     let x : IsLoanable old c.args.h c.in-Flight.ticket =
     loanable old c.frames-frames.result.now c.args.h c.in-Flight.ticket c.self.invariant c.frames-frames.ensures.books (subst (λ (i : Inside). AreHome i.flights.future) (sym c.self.view_is) c.requires.home)
     c.frames-frames.ensures.value c.phase_of.ensures.kept (sym c.phase_of.ensures.value ∙ c.in-Flight.is) in

@@ -1,5 +1,5 @@
 use Rattle.std.proofs.Common.{◌≡◌, ◌∙◌, ℕ, ◌+◌, ◌<◌, ◌≤◌, true, [], ◌∷◌, ◌++◌, length, map, refl, sym, ap, subst, None}
-use Rattle.std.specs.Prelude.{slice_index_or, vec_capacity}
+use Rattle.std.specs.Prelude.{slice_index_or}
 use Rattle.std.specs.List.{AllByRecursion, filter_map}
 use Rattle.std.specs.Map.{keys_of}
 use Rattle.std.proofs.lemmas.List.{append-nil}
@@ -48,7 +48,7 @@ unended old flights p runs count cargo over aboard = record {
 
 pub invariant_of-self : goal.invariant_of-self
 invariant_of-self c =
-    let old : Inside = record { objects = c.self.inside.objects; flights = c.self.inside.flights; worlds = c.self.inside.worlds; history = c.self.inside.journal.items; room = vec_capacity c.self.inside.journal; builds = c.self.inside.builds } in
+    let old : Inside = record { objects = c.self.inside.objects; flights = c.self.inside.flights; worlds = c.self.inside.worlds; history = c.self.inside.journal.items; room = c.self.inside.journal.room; builds = c.self.inside.builds } in
     let runs = none_seen c.args.after old.flights.future c.next_ended.new.self.future c.in-None.ensures.seen in
     unended old c.next_ended.new.self c.self.invariant runs (seen_count old.flights.future c.next_ended.new.self.future runs) c.in-None.ensures.cargo (c.in-None.ensures.over ∙ append-nil old.flights.over)
     (aboard_none c.args.after old.flights c.next_ended.new.self.future (subst (λ (s : Future). Rising (map (λ f. f.ticket) s.flights)) c.frames.ensures.value c.are_kept.ensures.rising) c.frames.ensures.books
@@ -56,7 +56,7 @@ invariant_of-self c =
 
 pub end_flight-requires : goal.end_flight-requires
 end_flight-requires c =
-    let old : Inside = record { objects = c.self.inside.objects; flights = c.self.inside.flights; worlds = c.self.inside.worlds; history = c.self.inside.journal.items; room = vec_capacity c.self.inside.journal; builds = c.self.inside.builds } in
+    let old : Inside = record { objects = c.self.inside.objects; flights = c.self.inside.flights; worlds = c.self.inside.worlds; history = c.self.inside.journal.items; room = c.self.inside.journal.room; builds = c.self.inside.builds } in
     let e = c.in-Some.over.ended in
     let cargo = c.in-Some.over.cargo in
     let left = c.next_ended.new.self.future.flights in
@@ -65,7 +65,7 @@ end_flight-requires c =
 
 pub unhold_all-requires : goal.unhold_all-requires
 unhold_all-requires c =
-    let old : Inside = record { objects = c.self.inside.objects; flights = c.self.inside.flights; worlds = c.self.inside.worlds; history = c.self.inside.journal.items; room = vec_capacity c.self.inside.journal; builds = c.self.inside.builds } in
+    let old : Inside = record { objects = c.self.inside.objects; flights = c.self.inside.flights; worlds = c.self.inside.worlds; history = c.self.inside.journal.items; room = c.self.inside.journal.room; builds = c.self.inside.builds } in
     let e = c.in-Some.over.ended in
     let cargo = c.in-Some.over.cargo in
     let left = c.next_ended.new.self.future.flights in
@@ -77,7 +77,7 @@ unhold_all-requires c =
 
 pub bury-requires-clause-ranked : goal.bury-requires-clause-ranked
 bury-requires-clause-ranked c =
-    let old : Inside = record { objects = c.self.inside.objects; flights = c.self.inside.flights; worlds = c.self.inside.worlds; history = c.self.inside.journal.items; room = vec_capacity c.self.inside.journal; builds = c.self.inside.builds } in
+    let old : Inside = record { objects = c.self.inside.objects; flights = c.self.inside.flights; worlds = c.self.inside.worlds; history = c.self.inside.journal.items; room = c.self.inside.journal.room; builds = c.self.inside.builds } in
     let e = c.in-Some.over.ended in
     let cargo = c.in-Some.over.cargo in
     let left = c.next_ended.new.self.future.flights in
@@ -88,7 +88,7 @@ bury-requires-clause-ranked c =
 
 pub bury-requires-clause-none : goal.bury-requires-clause-none
 bury-requires-clause-none c =
-    let old : Inside = record { objects = c.self.inside.objects; flights = c.self.inside.flights; worlds = c.self.inside.worlds; history = c.self.inside.journal.items; room = vec_capacity c.self.inside.journal; builds = c.self.inside.builds } in
+    let old : Inside = record { objects = c.self.inside.objects; flights = c.self.inside.flights; worlds = c.self.inside.worlds; history = c.self.inside.journal.items; room = c.self.inside.journal.room; builds = c.self.inside.builds } in
     let e = c.in-Some.over.ended in
     let cargo = c.in-Some.over.cargo in
     let left = c.next_ended.new.self.future.flights in
@@ -99,14 +99,14 @@ bury-requires-clause-none c =
 
 pub invariant_of-self-2 : goal.invariant_of-self-2
 invariant_of-self-2 c =
-    let old : Inside = record { objects = c.self.inside.objects; flights = c.self.inside.flights; worlds = c.self.inside.worlds; history = c.self.inside.journal.items; room = vec_capacity c.self.inside.journal; builds = c.self.inside.builds } in
+    let old : Inside = record { objects = c.self.inside.objects; flights = c.self.inside.flights; worlds = c.self.inside.worlds; history = c.self.inside.journal.items; room = c.self.inside.journal.room; builds = c.self.inside.builds } in
     let e = c.in-Some.over.ended in
     let cargo = c.in-Some.over.cargo in
     let left = c.next_ended.new.self.future.flights in
     let x : IsEnding old e cargo left = ending old c.args.after c.frames.result.now c.next_ended.new.self.future e cargo c.self.invariant c.frames.ensures.value c.are_kept.ensures.rising c.frames.ensures.books c.in-Some.ensures.seen c.in-Some.ensures.cargo.0 in
     let moves : c.unhold_all.new.objects ≡ moved old e cargo left x = c.unhold_all.ensures ∙ ap (λ reach. with_holds c.end_flight.new.objects (held_less reach c.end_flight.new.objects.stored.holds)) c.as_slice.ensures.value
     ∙ ap (λ (o : Objects). with_holds o (held_less cargo.kept.reach.items o.stored.holds)) (c.end_flight.ensures (next_place (after old.history))) in
-    noted_parts old (record { objects = c.bury.new.objects; flights = c.bury.new.flights; worlds = c.bury.new.worlds; history = c.push_reserved.new.self.items; room = vec_capacity c.push_reserved.new.self; builds = c.self.inside.builds }) e cargo left x
+    noted_parts old (record { objects = c.bury.new.objects; flights = c.bury.new.flights; worlds = c.bury.new.worlds; history = c.push_reserved.new.self.items; room = c.push_reserved.new.self.room; builds = c.self.inside.builds }) e cargo left x
     (subst CountsItsObjects (c.store.ensures ∙ ap (λ (o : Objects). o.stored) moves) c.counts_its_objects.ensures)
     (subst CountsItsObjects c.store-2.ensures c.counts_its_objects-2.ensures)
     (subst (λ (o : Objects). IsLeft o.stored c.bury.new.objects.stored) moves c.bury.ensures.left)
@@ -117,7 +117,7 @@ invariant_of-self-2 c =
     (ap (λ (b : Books Load). b.cargo) c.bury.ensures.flights ∙ c.in-Some.ensures.cargo.1)
     (subst (AllOver (old.history ++ note e.left e.ticket ∷ [])) (sym (ap (λ (b : Books Load). b.over) c.bury.ensures.flights ∙ c.in-Some.ensures.over))
     (note_over old.history c.args.after old.flights.future c.next_ended.new.self.future e old.flights.over (noted old e cargo left x).legal c.in-Some.ensures.seen c.self.invariant.over))
-    c.bury.ensures.forgotten c.bury.ensures.known refl c.push_reserved.ensures.capacity
+    c.bury.ensures.forgotten c.bury.ensures.known refl c.push_reserved.ensures.room
 
 pub returns-clause-home : goal.returns-clause-home
 returns-clause-home c =
@@ -126,7 +126,7 @@ returns-clause-home c =
 
 pub returns-clause-noted : goal.returns-clause-noted
 returns-clause-noted c =
-    let old : Inside = record { objects = c.self.inside.objects; flights = c.self.inside.flights; worlds = c.self.inside.worlds; history = c.self.inside.journal.items; room = vec_capacity c.self.inside.journal; builds = c.self.inside.builds } in
+    let old : Inside = record { objects = c.self.inside.objects; flights = c.self.inside.flights; worlds = c.self.inside.worlds; history = c.self.inside.journal.items; room = c.self.inside.journal.room; builds = c.self.inside.builds } in
     let e = c.in-Some.over.ended in
     let cargo = c.in-Some.over.cargo in
     let left = c.next_ended.new.self.future.flights in
@@ -137,7 +137,7 @@ returns-clause-noted c =
     let left_ = subst (λ (o : Objects). IsLeft o.stored c.bury.new.objects.stored) moves c.bury.ensures.left in
     let buried_ = c.bury.ensures.state ∙ ap (λ (o : Objects). buried o.stored) moves in
     subst
-    (λ (before : Inside). HasNoted c.args.after before (record { objects = c.bury.new.objects; flights = c.bury.new.flights; worlds = c.bury.new.worlds; history = c.push_reserved.new.self.items; room = vec_capacity c.push_reserved.new.self; builds = c.self.inside.builds }) e.ticket)
+    (λ (before : Inside). HasNoted c.args.after before (record { objects = c.bury.new.objects; flights = c.bury.new.flights; worlds = c.bury.new.worlds; history = c.push_reserved.new.self.items; room = c.push_reserved.new.self.room; builds = c.self.inside.builds }) e.ticket)
     c.self.view_is
     (record {
       ended = e;
@@ -148,7 +148,7 @@ returns-clause-noted c =
       left = ap (λ (b : Books Load). b.future) c.bury.ensures.flights;
       cargo = ap (λ (b : Books Load). b.cargo) c.bury.ensures.flights ∙ c.in-Some.ensures.cargo.1;
       over = ap (λ (b : Books Load). b.over) c.bury.ensures.flights ∙ c.in-Some.ensures.over;
-      told = noted_told old (record { objects = c.bury.new.objects; flights = c.bury.new.flights; worlds = c.bury.new.worlds; history = c.push_reserved.new.self.items; room = vec_capacity c.push_reserved.new.self; builds = c.self.inside.builds }) e cargo left x
+      told = noted_told old (record { objects = c.bury.new.objects; flights = c.bury.new.flights; worlds = c.bury.new.worlds; history = c.push_reserved.new.self.items; room = c.push_reserved.new.self.room; builds = c.self.inside.builds }) e cargo left x
           (subst CountsItsObjects (c.store.ensures ∙ ap (λ (o : Objects). o.stored) moves) c.counts_its_objects.ensures)
           (subst CountsItsObjects c.store-2.ensures c.counts_its_objects-2.ensures)
           (subst (λ (o : Objects). IsLeft o.stored c.bury.new.objects.stored) moves c.bury.ensures.left)
@@ -159,9 +159,9 @@ returns-clause-noted c =
           (ap (λ (b : Books Load). b.cargo) c.bury.ensures.flights ∙ c.in-Some.ensures.cargo.1)
           (subst (AllOver (old.history ++ note e.left e.ticket ∷ [])) (sym (ap (λ (b : Books Load). b.over) c.bury.ensures.flights ∙ c.in-Some.ensures.over))
           (note_over old.history c.args.after old.flights.future c.next_ended.new.self.future e old.flights.over (noted old e cargo left x).legal c.in-Some.ensures.seen c.self.invariant.over))
-          c.bury.ensures.forgotten c.bury.ensures.known refl c.push_reserved.ensures.capacity
+          c.bury.ensures.forgotten c.bury.ensures.known refl c.push_reserved.ensures.room
           notices;
-      fewer = noted_fewer old (record { objects = c.bury.new.objects; flights = c.bury.new.flights; worlds = c.bury.new.worlds; history = c.push_reserved.new.self.items; room = vec_capacity c.push_reserved.new.self; builds = c.self.inside.builds }) e cargo left x
+      fewer = noted_fewer old (record { objects = c.bury.new.objects; flights = c.bury.new.flights; worlds = c.bury.new.worlds; history = c.push_reserved.new.self.items; room = c.push_reserved.new.self.room; builds = c.self.inside.builds }) e cargo left x
           (subst CountsItsObjects (c.store.ensures ∙ ap (λ (o : Objects). o.stored) moves) c.counts_its_objects.ensures)
           (subst CountsItsObjects c.store-2.ensures c.counts_its_objects-2.ensures)
           (subst (λ (o : Objects). IsLeft o.stored c.bury.new.objects.stored) moves c.bury.ensures.left)
@@ -172,15 +172,15 @@ returns-clause-noted c =
           (ap (λ (b : Books Load). b.cargo) c.bury.ensures.flights ∙ c.in-Some.ensures.cargo.1)
           (subst (AllOver (old.history ++ note e.left e.ticket ∷ [])) (sym (ap (λ (b : Books Load). b.over) c.bury.ensures.flights ∙ c.in-Some.ensures.over))
           (note_over old.history c.args.after old.flights.future c.next_ended.new.self.future e old.flights.over (noted old e cargo left x).legal c.in-Some.ensures.seen c.self.invariant.over))
-          c.bury.ensures.forgotten c.bury.ensures.known refl c.push_reserved.ensures.capacity
+          c.bury.ensures.forgotten c.bury.ensures.known refl c.push_reserved.ensures.room
           notices;
-      room = c.push_reserved.ensures.capacity;
+      room = c.push_reserved.ensures.room;
     })
 
 pub returns-in-None-clause-noted : goal.returns-in-None-clause-noted
 returns-in-None-clause-noted c =
     subst
-    (λ (before : Inside). HasNotedNothing c.args.after before (record { objects = c.self.inside.objects; flights = c.next_ended.new.self; worlds = c.self.inside.worlds; history = c.self.inside.journal.items; room = vec_capacity c.self.inside.journal; builds = c.self.inside.builds }))
+    (λ (before : Inside). HasNotedNothing c.args.after before (record { objects = c.self.inside.objects; flights = c.next_ended.new.self; worlds = c.self.inside.worlds; history = c.self.inside.journal.items; room = c.self.inside.journal.room; builds = c.self.inside.builds }))
     c.self.view_is
     (record {
       seen = c.in-None.ensures.seen;
@@ -191,14 +191,14 @@ returns-in-None-clause-noted c =
 
 pub returns-clause-stands : goal.returns-clause-stands
 returns-clause-stands c =
-    let old : Inside = record { objects = c.self.inside.objects; flights = c.self.inside.flights; worlds = c.self.inside.worlds; history = c.self.inside.journal.items; room = vec_capacity c.self.inside.journal; builds = c.self.inside.builds } in
+    let old : Inside = record { objects = c.self.inside.objects; flights = c.self.inside.flights; worlds = c.self.inside.worlds; history = c.self.inside.journal.items; room = c.self.inside.journal.room; builds = c.self.inside.builds } in
     let e = c.in-Some.over.ended in
     let cargo = c.in-Some.over.cargo in
     let left = c.next_ended.new.self.future.flights in
     let x : IsEnding old e cargo left = ending old c.args.after c.frames.result.now c.next_ended.new.self.future e cargo c.self.invariant c.frames.ensures.value c.are_kept.ensures.rising c.frames.ensures.books c.in-Some.ensures.seen c.in-Some.ensures.cargo.0 in
     let moves : c.unhold_all.new.objects ≡ moved old e cargo left x = c.unhold_all.ensures ∙ ap (λ reach. with_holds c.end_flight.new.objects (held_less reach c.end_flight.new.objects.stored.holds)) c.as_slice.ensures.value
     ∙ ap (λ (o : Objects). with_holds o (held_less cargo.kept.reach.items o.stored.holds)) (c.end_flight.ensures (next_place (after old.history))) in
-    λ stands. noted_stands old (record { objects = c.bury.new.objects; flights = c.bury.new.flights; worlds = c.bury.new.worlds; history = c.push_reserved.new.self.items; room = vec_capacity c.push_reserved.new.self; builds = c.self.inside.builds }) e cargo left x
+    λ stands. noted_stands old (record { objects = c.bury.new.objects; flights = c.bury.new.flights; worlds = c.bury.new.worlds; history = c.push_reserved.new.self.items; room = c.push_reserved.new.self.room; builds = c.self.inside.builds }) e cargo left x
     (subst CountsItsObjects (c.store.ensures ∙ ap (λ (o : Objects). o.stored) moves) c.counts_its_objects.ensures)
     (subst CountsItsObjects c.store-2.ensures c.counts_its_objects-2.ensures)
     (subst (λ (o : Objects). IsLeft o.stored c.bury.new.objects.stored) moves c.bury.ensures.left)
@@ -209,12 +209,12 @@ returns-clause-stands c =
     (ap (λ (b : Books Load). b.cargo) c.bury.ensures.flights ∙ c.in-Some.ensures.cargo.1)
     (subst (AllOver (old.history ++ note e.left e.ticket ∷ [])) (sym (ap (λ (b : Books Load). b.over) c.bury.ensures.flights ∙ c.in-Some.ensures.over))
     (note_over old.history c.args.after old.flights.future c.next_ended.new.self.future e old.flights.over (noted old e cargo left x).legal c.in-Some.ensures.seen c.self.invariant.over))
-    c.bury.ensures.forgotten c.bury.ensures.known refl c.push_reserved.ensures.capacity
+    c.bury.ensures.forgotten c.bury.ensures.known refl c.push_reserved.ensures.room
     c.args.after c.next_ended.new.self.future c.in-Some.ensures.seen (ap (λ (b : Books Load). b.future) c.bury.ensures.flights) (subst IsStanding (sym c.self.view_is) stands)
 
 pub returns-in-None-clause-stands : goal.returns-in-None-clause-stands
 returns-in-None-clause-stands c = λ stands.
-    let before : IsStanding (record { objects = c.self.inside.objects; flights = c.self.inside.flights; worlds = c.self.inside.worlds; history = c.self.inside.journal.items; room = vec_capacity c.self.inside.journal; builds = c.self.inside.builds }) = subst IsStanding (sym c.self.view_is) stands in
+    let before : IsStanding (record { objects = c.self.inside.objects; flights = c.self.inside.flights; worlds = c.self.inside.worlds; history = c.self.inside.journal.items; room = c.self.inside.journal.room; builds = c.self.inside.builds }) = subst IsStanding (sym c.self.view_is) stands in
     record {
       frames = looked_stands c.self.inside.journal.items c.args.after c.self.inside.flights.future c.next_ended.new.self.future c.in-None.ensures.seen before.frames;
       told = seen_told c.self.inside.journal.items c.args.after c.self.inside.flights.future c.next_ended.new.self.future None c.in-None.ensures.seen before.told;

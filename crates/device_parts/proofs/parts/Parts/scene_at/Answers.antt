@@ -1,5 +1,5 @@
 use Rattle.std.proofs.Common.{◌≡◌, ◌<◌, Some, get_or, length, sym, subst}
-use Rattle.std.specs.Prelude.{IfSome, vec_capacity}
+use Rattle.std.specs.Prelude.{IfSome}
 use Rattle.std.specs.List.{slice_get}
 use Rattle.flight_books.specs.declared.kept.Cargo.{Cargo}
 use Rattle.frame_future.specs.Future.{AreHome}
@@ -10,7 +10,7 @@ use Rattle.device_parts.proofs.parts.Parts.scene_at.Goals as goal
 
 pub unreachable-requires : goal.unreachable-requires
 unreachable-requires c =
-    let old : Inside = record { objects = c.self.inside.objects; flights = c.self.inside.flights; worlds = c.self.inside.worlds; history = c.self.inside.journal.items; room = vec_capacity c.self.inside.journal; builds = c.self.inside.builds } in
+    let old : Inside = record { objects = c.self.inside.objects; flights = c.self.inside.flights; worlds = c.self.inside.worlds; history = c.self.inside.journal.items; room = c.self.inside.journal.room; builds = c.self.inside.builds } in
     let d : Cargo Load = c.index-cargo-place.result in
     let k : Cargo Load = get_or c.cargo.result.now c.args.place d in
     let at : slice_get old.flights.cargo c.args.place ≡ Some k = kept_at_place old.flights.cargo c.cargo.result.now c.args.place d c.cargo.ensures
@@ -20,7 +20,7 @@ unreachable-requires c =
 
 pub returns : goal.returns
 returns c =
-    let old : Inside = record { objects = c.self.inside.objects; flights = c.self.inside.flights; worlds = c.self.inside.worlds; history = c.self.inside.journal.items; room = vec_capacity c.self.inside.journal; builds = c.self.inside.builds } in
+    let old : Inside = record { objects = c.self.inside.objects; flights = c.self.inside.flights; worlds = c.self.inside.worlds; history = c.self.inside.journal.items; room = c.self.inside.journal.room; builds = c.self.inside.builds } in
     let d : Cargo Load = c.index-cargo-place.result in
     let k : Cargo Load = get_or c.cargo.result.now c.args.place d in
     let at : slice_get old.flights.cargo c.args.place ≡ Some k = kept_at_place old.flights.cargo c.cargo.result.now c.args.place d c.cargo.ensures

@@ -1,6 +1,5 @@
 use Rattle.std.proofs.Common.{◌≡◌, ◌∙◌, sym, subst}
 use Rattle.std.specs.Prelude.{IfSome, IsSome}
-use Rattle.std.specs.Prelude.{vec_capacity}
 use Rattle.frame_future.specs.Future.{Future, flight_of}
 use Rattle.seq_model.specs.Pictures.{tiles_at}
 use Rattle.device_parts.specs.AllParts.{Inside}
@@ -22,7 +21,7 @@ last_look-requires c =
 
 pub returns : goal.returns
 returns c =
-    let old : Inside = record { objects = c.self.inside.objects; flights = c.self.inside.flights; worlds = c.self.inside.worlds; history = c.self.inside.journal.items; room = vec_capacity c.self.inside.journal; builds = c.self.inside.builds } in
+    let old : Inside = record { objects = c.self.inside.objects; flights = c.self.inside.flights; worlds = c.self.inside.worlds; history = c.self.inside.journal.items; room = c.self.inside.journal.room; builds = c.self.inside.builds } in
     subst (λ (i : Inside). IfSome (flight_of i.flights.future c.args.frame) (λ f. c.last_look.result.1 ≡ tiles_at i.history f.ticket)) c.self.view_is
     (look_here old c.frames-frames.result.now c.args.frame c.in-Flight.ticket c.last_look.result (subst IsStanding (sym c.self.view_is) c.requires.stands) c.frames-frames.ensures.value c.phase_of.ensures.kept
     (sym c.phase_of.ensures.value ∙ c.in-Flight.is) c.last_look.ensures.value)

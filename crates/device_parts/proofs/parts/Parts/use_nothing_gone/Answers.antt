@@ -1,5 +1,4 @@
 use Rattle.std.proofs.Common.{◌∙◌, sym, ap, subst}
-use Rattle.std.specs.Prelude.{vec_capacity}
 use Rattle.std.specs.Option.{is_some}
 use Rattle.kept_worlds.specs.KeptMaps.{reach_at}
 use Rattle.kept_worlds.proofs.NowFacts.{kept_reach_lives}
@@ -11,7 +10,7 @@ use Rattle.device_parts.proofs.parts.Parts.use_nothing_gone.Goals as goal
 
 pub returns : goal.returns
 returns c =
-    let i : Inside = record { objects = c.self.inside.objects; flights = c.self.inside.flights; worlds = c.self.inside.worlds; history = c.self.inside.journal.items; room = vec_capacity c.self.inside.journal; builds = c.self.inside.builds } in
+    let i : Inside = record { objects = c.self.inside.objects; flights = c.self.inside.flights; worlds = c.self.inside.worlds; history = c.self.inside.journal.items; room = c.self.inside.journal.room; builds = c.self.inside.builds } in
     subst NothingGoneIsUsed c.self.view_is (record {
       flights = λ t h gone. gone_is_unused i.history i.flights.over t h c.self.invariant.rest.legal c.self.invariant.over c.frames-flights.ensures.books.over
           (ap (λ (s : State). object_at s h) (sym c.self.invariant.rest.state) ∙ gone);
