@@ -297,6 +297,7 @@ module _ (old : Inside) (actor f : ℕ) (p : AreParts old) (legal : Legal (old.h
             ∙ ap (scene_at (old.history ++ render_of actor f ∷ [])) ticket_is
             ∙ ap (λ h. scene_at h (length old.history + 1)) (sym grown);
         fresh = takes.new;
+        unclaimed = takes.unclaimed;
         begins = flights;
       }
 
@@ -308,5 +309,6 @@ begun_before f room old new b = record {
   frame = b.frame;
   scene = b.scene;
   fresh = b.fresh;
+  unclaimed = b.unclaimed;
   begins = b.begins;
 }

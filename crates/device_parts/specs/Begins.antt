@@ -12,7 +12,8 @@ use Rattle.kept_worlds.specs.KeptMaps.{Kept}
 use Rattle.kind_tables.specs.SceneObjects.{SceneObjects, object_at, value_named}
 use Rattle.seq_model.specs.Pictures.{scene_at}
 use Rattle.tile_claims.specs.Parts.{scene_of}
-use Rattle.tile_claims.specs.Seats.{key_of}
+use Rattle.tile_claims.specs.Seats.{key_of, view}
+use Rattle.tile_claims.specs.Views.{looked, no_looks}
 use Rattle.device_laws.specs.FramesStand.{without_pictures}
 use Rattle.device_parts.specs.AllParts.{Inside, scene_of_load}
 use Rattle.device_parts.specs.declared.begins.Takeoff.{Takeoff}
@@ -41,21 +42,24 @@ with_takeoff t b = record {
 }
 
 -- what a flight of frame f begins with under a ticket: claims of the scene of its load, of which none is
--- claimed, and the channels for which the frame asks
+-- claimed, as the one look at them read, and the channels for which the frame asks
 pub record IsTakeoff (objects : SceneObjects) (ticket f : ℕ) (load : Load) (t : Takeoff) : Type 0 where
   pub cargo : t.cargo ≡ record { ticket = ticket; frame = f; kept = load }
   pub scene : scene_of_load load ≡ Some (scene_of (key_of t.claims))
   pub new : IsNew t.claims t.seat
+  pub unclaimed : (view t.seat).claims ≡ looked no_looks 0
   pub sized : IsSized (key_of t.claims)
   pub asked : (c : Channel) → is_asked t.channels c ≡ asks_in objects f c
 
 -- A flight of frame f began: its ticket is the place of its render, its claims are of the scene of the
--- render, and no tile of it is claimed. Of the frames that died no picture is left
+-- render, and no tile of it is claimed: one look was made at how many are, and it read 0. Of the frames
+-- that died no picture is left
 pub record HasBegun (f : ℕ) (old new : Inside) : Type 0 where
   pub takeoff : Takeoff
   pub ticket : takeoff.cargo.ticket ≡ length old.history + 1
   pub frame : takeoff.cargo.frame ≡ f
   pub scene : scene_of (key_of takeoff.claims) ≡ scene_at new.history (length old.history + 1)
   pub fresh : IsNew takeoff.claims takeoff.seat
+  pub unclaimed : (view takeoff.seat).claims ≡ looked no_looks 0
   pub begins : new.flights ≡ with_future (with_takeoff takeoff old.flights)
       (without_pictures (with_takeoff takeoff old.flights).future new.objects.departed)

@@ -21,7 +21,8 @@ ghost use Rattle.seq_model.specs.State.{object_at, scene_objects};
 ghost use Rattle.seq_model.specs.Steps.{after};
 ghost use Rattle.seq_model.specs.declared.calls.Call.TheVariants.{RenderFrame};
 ghost use Rattle.seq_model.specs.declared.calls.Reply.TheVariants as reply;
-ghost use Rattle.tile_claims.specs.Seats.{key_of};
+ghost use Rattle.tile_claims.specs.Seats.{key_of, view};
+ghost use Rattle.tile_claims.specs.Views.{looked, no_looks};
 ghost use Rattle.device_parts.specs.AllParts.{scene_prepared, shown_by};
 ghost use Rattle.device_parts.specs.Begins.{HasBegun, IsTakeoff, asks_in, with_takeoff, without_world, world_of_build};
 ghost use Rattle.device_parts.specs.Calls.{HasEntered, HasRoomMade};
@@ -141,6 +142,17 @@ pub(crate) fn begin_kept(
     Ok(())
 }
 
+/// Looks once at how many tiles of new claims are claimed: none.
+fn look_at_new(claims: &Claims, seat: &mut Seat)
+    requires new { IsNew claims.now seat.old }
+    requires sized { IsSized (key_of claims.now) }
+    requires unseen { (view seat.old).claims ≡ no_looks }
+    ensures new { IsNew claims.now seat.new }
+    ensures unclaimed { (view seat.new).claims ≡ looked no_looks 0 }
+{
+    claims.claimed(seat);
+}
+
 /// What the flight of a frame begins with under this ticket, of which the scene reached these objects.
 /// The only error is want of memory.
 fn takeoff_of<O: Objects>(
@@ -155,7 +167,8 @@ fn takeoff_of<O: Objects>(
     ensures { IfOk result (IsTakeoff (O.objects state.now) ticket frame
         (record { reach = reach; scene = Some scene })) }
 {
-    let (claims, seat) = scene.claims(alloc)?;
+    let (claims, mut seat) = scene.claims(alloc)?;
+    look_at_new(&claims, &mut seat);
     let channels = asked_channels(state, frame);
     let cargo = Cargo {
         ticket,

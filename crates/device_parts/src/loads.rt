@@ -5,7 +5,8 @@ ghost use Rattle.frame_future.specs.Pixels.{IsSized};
 ghost use Rattle.picture_model.specs.Limits.{IsSceneWithin};
 ghost use Rattle.picture_model.specs.Tiles.{tile_count};
 ghost use Rattle.tile_claims.specs.Parts.{scene_of};
-ghost use Rattle.tile_claims.specs.Seats.{key_of};
+ghost use Rattle.tile_claims.specs.Seats.{key_of, view};
+ghost use Rattle.tile_claims.specs.Views.{no_looks};
 ghost use Rattle.world_snapshot.specs.Works.{scene_of_work};
 ghost use Rattle.device_parts.specs.AllParts.{scene_prepared};
 
@@ -88,6 +89,7 @@ impl PreparedScene {
         requires { IsSceneWithin (scene_prepared self.now) }
         ensures scene { IfOk result (λ c. scene_of (key_of c.0) ≡ scene_prepared self.now) }
         ensures new { IfOk result (λ c. IsNew c.0 c.1) }
+        ensures unseen { IfOk result (λ c. (view c.1).claims ≡ no_looks) }
         ensures sized { IfOk result (λ c. IsSized (key_of c.0)) }
     {
         Claims::new(alloc, self.key())
