@@ -8,6 +8,7 @@ use Rattle.flight_books.proofs.SweepLaws.{begins, fewer, goes_on, is_over}
 use Rattle.frame_future.specs.Future.{AreHome, Finished, Future}
 use Rattle.frame_future.specs.Reads.{AreSeen, ended_by, pictures_of}
 use Rattle.frame_future.specs.declared.phase.Ended.{Ended}
+use Rattle.object_steps.specs.Objects.{tellable}
 use Rattle.object_store.specs.Ends.{notice_of}
 use Rattle.seq_model.proofs.Tellings.{told_more}
 use Rattle.seq_model.specs.Told.{told}
@@ -108,3 +109,7 @@ pub none_noted : (now new : Inside) (last : ℕ) → HasNotedNothing last now ne
 none_noted now new last nothing =
     ap₂ (λ m n. m + n) (ap (λ (i : Inside). length i.history) nothing.rest)
     (seen_count now.flights.future new.flights.future (none_seen last now.flights.future new.flights.future nothing.seen))
+
+-- where none was noted, nobody less is to be told of
+pub none_to_tell : (now new : Inside) (last : ℕ) → HasNotedNothing last now new → tellable new.objects.stored.state ≡ tellable now.objects.stored.state
+none_to_tell now new last nothing = ap (λ (i : Inside). tellable i.objects.stored.state) nothing.rest

@@ -9,7 +9,7 @@ use Rattle.seq_model.specs.Told.{told}
 use Rattle.device_parts.specs.Deaths.{all_told}
 use Rattle.device_parts.specs.AllParts.{Inside}
 use Rattle.device_parts.specs.Standing.{IsStanding}
-use Rattle.device_parts.proofs.SweepFacts.{IsSweeping, none_noted, noted_tells, one_noted, sweeping_begins, sweeping_fewer, sweeping_on, sweeping_over}
+use Rattle.device_parts.proofs.SweepFacts.{IsSweeping, none_noted, none_to_tell, noted_tells, one_noted, sweeping_begins, sweeping_fewer, sweeping_on, sweeping_over}
 use Rattle.device_parts.proofs.parts.Parts.sweep.Goals as goal
 
 pub loop-ticket-init : goal.loop-ticket-init
@@ -74,6 +74,4 @@ returns-clause-places g c =
 
 pub returns-clause-left : goal.returns-clause-left
 returns-clause-left g c =
-    let left = c.loop-ticket.invariant.6 in
-    subst (λ n. g.C.Client.spare c.args.client.now + n ≤ g.C.Client.spare c.loop-ticket.client + tellable c.args.self.now.objects.stored.state)
-    (sym (ap (λ (i : Inside). tellable i.objects.stored.state) c.in_default.ensures.noted.rest)) left
+    let left = c.loop-ticket.invariant.6 in let same = none_to_tell c.loop-ticket.self c.note_next.new.self c.loop-ticket.last c.in_default.ensures.noted in omega (arith, left, same)
