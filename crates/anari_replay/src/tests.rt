@@ -92,7 +92,7 @@ fn what_happened_and_was_told_is_counted(rt: HostRuntime) -> Result<(), Fail> {
 
 #[test]
 fn other_words_are_refused_and_nothing_is_read(rt: HostRuntime) -> Result<(), Fail> {
-    let cases: [&[&str]; 40] = [
+    let cases: [&[&str]; 39] = [
         &[],
         &[""],
         &["paint"],
@@ -149,10 +149,9 @@ fn other_words_are_refused_and_nothing_is_read(rt: HostRuntime) -> Result<(), Fa
             "--frames=1",
             "--frames=1",
         ],
-        // Commands that only a run with threads does, and some that are not built.
+        // A command that only a run with threads does, and some that are not built.
         &["run"],
         &["run", "--workers", "17"],
-        &["demo", "--seed", "7", "--callers", "1", "--frames", "1"],
         &["wire"],
         &["check"],
         &["ring", "--slots", "2", "--pictures", "2", "--readers", "1"],
