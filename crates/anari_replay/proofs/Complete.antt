@@ -60,11 +60,11 @@ pub completes : (command : Option Command) (old new : Option (List ℕ)) (ended 
     FindsTrace command old → NoneRose reads now → NoneRose writes then_ → (status ≡ 0) ⊎ (status ≡ 3)
 completes None old new ended fault reads now writes then_ status ending read write refused finds calm still = absurd finds
 completes (Some (Run print workers)) old new ended fault reads now writes then_ status ending read write refused finds calm still = absurd finds
-completes (Some (Demo recipe)) old new ended fault reads now writes then_ status ending read write refused finds calm still = absurd finds
 completes (Some Wire) old new ended fault reads now writes then_ status ending read write refused finds calm still = absurd finds
 completes (Some Check) old new ended fault reads now writes then_ status ending read write refused finds calm still = absurd finds
 completes (Some (Ring slots pictures readers)) old new ended fault reads now writes then_ status ending read write refused finds calm still = absurd finds
 completes (Some (Make recipe)) old new ended fault reads now writes then_ status ending read write refused finds calm still = no_write writes then_ status ending write still
+completes (Some (Demo recipe)) old new ended fault reads now writes then_ status ending read write refused finds calm still = no_write writes then_ status ending write still
 completes (Some Describe) old new ended fault reads now writes then_ status ending read write refused finds calm still = no_write writes then_ status ending write still
 completes (Some (Solo print)) old new ended fault reads now writes then_ status ending read write refused finds calm still = by ending
   where

@@ -31,10 +31,14 @@ pub record IsRefused (old new : Option (List ℕ)) (ended : Bool) (fault : Optio
   pub breaks : trace_of bytes ≡ Err broken
   pub told : fault ≡ Some broken
 
--- the bytes were read, they are a trace, and the history is what one thread makes of it
-pub record IsReplay (old new : Option (List ℕ)) (ended : Bool) (history : History) : Type 0 where
-  pub bytes : List ℕ
-  pub read : WasRead old new ended bytes
+-- the bytes are a trace, and the history is what one thread makes of it
+pub record IsReplayOf (bytes : List ℕ) (history : History) : Type 0 where
   pub trace : Trace
   pub is_trace : trace_of bytes ≡ Ok trace
   pub replayed : history ≡ solo trace
+
+-- the bytes were read, and the history is their replay
+pub record IsReplay (old new : Option (List ℕ)) (ended : Bool) (history : History) : Type 0 where
+  pub bytes : List ℕ
+  pub read : WasRead old new ended bytes
+  pub replay : IsReplayOf bytes history

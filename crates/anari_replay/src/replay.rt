@@ -11,7 +11,7 @@ ghost use Rattle.seq_model.specs.Legal.{Legal};
 ghost use Rattle.seq_model.specs.Told.{told};
 ghost use Rattle.table_text.specs.Tables.{description};
 ghost use Rattle.trace_make.specs.Made.{made};
-ghost use Rattle.anari_replay.specs.Input.{GaveNoMore, IsRefused, IsReplay};
+ghost use Rattle.anari_replay.specs.Input.{GaveNoMore, IsRefused, IsReplay, IsReplayOf};
 ghost use Rattle.anari_replay.specs.Faults.{IsCauseAfter, IsCauseBefore, NoneRose};
 ghost use Rattle.anari_replay.specs.Outcome.{IsAfterReplay, IsBeforeReplay, IsInPart};
 ghost use Rattle.anari_replay.specs.Output.{FindsTrace, IsEnding, IsHistoryOf, MakesNothing, ReadsNothing, output_of};
@@ -19,6 +19,7 @@ ghost use Rattle.anari_replay.specs.Output.{FindsTrace, IsEnding, IsHistoryOf, M
 use crate::fault::Fault;
 use crate::outcome::Outcome;
 use command_words::{Command, NotTaken, Recipe, command_of};
+use made_traces::make_trace;
 use replay_core::{Replayed, solo};
 use replay_io::{Sink, Source, read_up_to, write_all};
 use report_text::{Print, report};
@@ -31,8 +32,9 @@ use trace_text::read_trace;
 const MOST_READ: usize = 67108865;
 
 /// Does what the words after the program's name ask for: `solo` replays the trace that `source` gives on
-/// one thread and writes what is printed of it to `sink`, `make` writes the trace that a seed makes,
-/// `describe` the tables of kinds and parameters. Waits for nobody and always returns.
+/// one thread and writes what is printed of it to `sink`, `make` writes the trace that a seed makes, `demo`
+/// replays that trace and writes the summary, `describe` writes the tables of kinds and parameters. Waits for
+/// nobody and always returns.
 pub fn run_plain<S: Source, K: Sink>(
     alloc: Global,
     words: &[String],
@@ -48,7 +50,7 @@ pub fn run_plain<S: Source, K: Sink>(
         → NoneRose (S.faults source.old) (S.faults source.new) → NoneRose (K.faults sink.old) (K.faults sink.new)
         → (result.status ≡ 0) ⊎ (result.status ≡ 3) }
 
-    // Only a replay reads, and no more than a trace may have and one byte.
+    // Only `solo` reads, and no more than a trace may have and one byte.
     ensures unread { ReadsNothing (commanded words.now) → source.new ≡ source.old }
     ensures taken { GaveNoMore (S.left source.old) (S.left source.new) }
 
@@ -126,15 +128,13 @@ fn run_command<S: Source, K: Sink>(
             let written = write_made(alloc, recipe, sink);
             Outcome::without_replay(alloc, written)
         }
+        Command::Demo(recipe) => run_demo(alloc, recipe, sink),
         Command::Describe => {
             let written = write_tables(alloc, sink);
             Outcome::without_replay(alloc, written)
         }
-        Command::Run { .. }
-        | Command::Demo(_)
-        | Command::Wire
-        | Command::Check
-        | Command::Ring { .. } => Outcome::without_replay(alloc, Err(Fault::Words)),
+        Command::Run { .. } | Command::Wire | Command::Check | Command::Ring { .. } =>
+            Outcome::without_replay(alloc, Err(Fault::Words)),
     }
 }
 
@@ -171,6 +171,32 @@ fn run_solo<S: Source, K: Sink>(
             Outcome::of(replayed, written)
         }
         Err(why) => Outcome::without_replay(alloc, Err(why)),
+    }
+}
+
+/// Replays the trace that is made so on one thread, and writes the summary.
+fn run_demo<K: Sink>(alloc: Global, recipe: Recipe, sink: &mut K) -> Outcome
+    requires { CanBeMade recipe }
+    ensures known { IsEnding (Some (Command.Demo recipe)) result.status }
+    ensures write_fault { result.status ≡ 5 → Rose (K.faults sink.old) (K.faults sink.new) }
+    ensures fault { result.fault ≡ None }
+    ensures replayed { IsAfterReplay result.status
+        → IsReplayOf (made recipe.seed recipe.callers recipe.frames) result.history }
+    ensures legal { Legal result.history }
+    ensures told { notices_of result.told ≡ told result.history }
+    ensures builds { result.builds ≡ builds result.history }
+    ensures written { result.status ≡ 0
+        → Appends (K.written sink.old) (K.written sink.new) (report Print.Summary result.history result.builds) }
+    ensures written_in_part { IsInPart result.status
+        → AppendsPrefix (K.written sink.old) (K.written sink.new) (report Print.Summary result.history result.builds) }
+{
+    match make_trace(alloc, recipe.seed, recipe.callers, recipe.frames) {
+        Ok(trace) => {
+            let replayed = solo(alloc, &trace);
+            let written = write_report(alloc, Print::Summary, &replayed, sink);
+            Outcome::of(replayed, written)
+        }
+        Err(why) => Outcome::without_replay(alloc, Err(Fault::from(why))),
     }
 }
 

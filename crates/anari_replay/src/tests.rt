@@ -92,7 +92,7 @@ fn what_happened_and_was_told_is_counted(rt: HostRuntime) -> Result<(), Fail> {
 
 #[test]
 fn other_words_are_refused_and_nothing_is_read(rt: HostRuntime) -> Result<(), Fail> {
-    let cases: [&[&str]; 40] = [
+    let cases: [&[&str]; 39] = [
         &[],
         &[""],
         &["paint"],
@@ -149,10 +149,9 @@ fn other_words_are_refused_and_nothing_is_read(rt: HostRuntime) -> Result<(), Fa
             "--frames=1",
             "--frames=1",
         ],
-        // Commands that only a run with threads does, and some that are not built.
+        // A command that only a run with threads does, and some that are not built.
         &["run"],
         &["run", "--workers", "17"],
-        &["demo", "--seed", "7", "--callers", "1", "--frames", "1"],
         &["wire"],
         &["check"],
         &["ring", "--slots", "2", "--pictures", "2", "--readers", "1"],
@@ -258,6 +257,56 @@ fn a_trace_is_made_and_nothing_is_read(rt: HostRuntime) -> Result<(), Fail> {
         assert!(rt; outcome.history.is_empty() && outcome.told.is_empty());
         assert!(rt; sink.written().starts_with(br#"{"phases":[{"callers":[[{"#));
         assert!(rt; sink.written().ends_with(b"\n"));
+    }
+    Ok(())
+}
+
+#[test]
+fn a_made_trace_is_replayed_and_summed_up(rt: HostRuntime) -> Result<(), Fail> {
+    let summary = b"entries=94 images=1 deleted=5 builds=1\n";
+    let numbers = ["--seed=7", "--callers=1", "--frames=1"];
+    let (outcome, shown) = run(
+        rt.alloc(),
+        &["demo", numbers[0], numbers[1], numbers[2]],
+        b"",
+    )?;
+    assert_eq!(rt; outcome.status, 0);
+    assert!(rt; shown.written() == summary.as_slice());
+    // It is what `solo` writes of the trace that `make` writes.
+    let (_, made) = run(
+        rt.alloc(),
+        &["make", numbers[0], numbers[1], numbers[2]],
+        b"",
+    )?;
+    let (_, replayed) = run(rt.alloc(), &["solo", "--print=summary"], made.written())?;
+    assert!(rt; replayed.written() == summary.as_slice());
+    Ok(())
+}
+
+#[test]
+fn two_callers_keep_one_world(rt: HostRuntime) -> Result<(), Fail> {
+    let summary = b"entries=141 images=6 deleted=5 builds=1\n";
+    let given = ["demo", "--frames=3", "--seed=0", "--callers=2"];
+    let (outcome, shown) = run(rt.alloc(), given.as_slice(), b"")?;
+    assert_eq!(rt; outcome.status, 0);
+    assert!(rt; shown.written() == summary.as_slice());
+    Ok(())
+}
+
+#[test]
+fn a_demo_reads_nothing_and_tells_of_a_failing_write(rt: HostRuntime) -> Result<(), Fail> {
+    let given = ["demo", "--seed=7", "--callers=1", "--frames=1"];
+    let words = words_of(rt.alloc(), given.as_slice())?;
+    // Which call of the sink fails, the status, and how much was written.
+    let cases: [(u64, u8, usize); 2] = [(1, 5, 0), (2, 0, 39)];
+    for (failing, status, written) in cases {
+        let mut source = MemorySource::new(b"abc".to_vec(rt.alloc())?, [1].to_vec(rt.alloc())?);
+        let mut sink = MemorySink::new(rt.alloc(), [failing].to_vec(rt.alloc())?);
+        let outcome = run_plain(rt.alloc(), words.as_slice(), &mut source, &mut sink);
+        assert_eq!(rt; outcome.status, status);
+        assert_eq!(rt; outcome.history.len(), 94);
+        assert_eq!(rt; source.left(), b"abc".as_slice());
+        assert_eq!(rt; sink.written().len(), written);
     }
     Ok(())
 }
