@@ -10,6 +10,7 @@ pub mod FollowFacts
 pub mod HoldFacts
 pub mod KeptFacts
 pub mod LookedFacts
+pub mod MakeFacts
 pub mod MapFacts
 pub mod LendFacts
 pub mod MoveFacts

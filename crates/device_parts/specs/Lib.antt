@@ -4,6 +4,8 @@ pub mod Ends
 pub mod Holds
 pub mod Journals
 pub mod Looks
+pub mod Makes
+pub mod Waits
 pub mod AllParts
 pub mod Deaths
 pub mod Standing

@@ -1,5 +1,8 @@
 //! The journal of a device, with places that are kept for entries to come.
-ghost use Rattle.std.specs.Prelude.{◌≡◌, ◌+◌, ◌-◌, ◌<◌, ◌≤◌, ◌^◌, ◌++◌, ◌∷◌, [], IfOk, IsOk, OnErr, OnOk, length, max};
+ghost use Rattle.std.specs.Prelude.{◌≡◌, ◌+◌, ◌-◌, ◌<◌, ◌≤◌, ◌^◌, ◌++◌, ◌∷◌, [], IfOk, IsOk, OnErr, OnOk, Some, length, max};
+ghost use Rattle.std.specs.Option.{option_map};
+ghost use Rattle.seq_model.specs.Histories.{History};
+ghost use Rattle.seq_model.specs.declared.calls.Entry.{Entry as Entries};
 
 use dev_types::NoMemory;
 use seq_model::Entry;
@@ -100,6 +103,14 @@ impl EntryLog {
         ensures room { self.new.room ≡ self.old.room }
     {
         self.entries.push_reserved(entry);
+    }
+
+    /// The last entry, if there is one.
+    pub(crate) fn last(&self) -> Option<&Entry>
+        ensures { (before : History) (e : Entries) → self.now.items ≡ before ++ e ∷ []
+            → option_map (λ r. r.now) result ≡ Some e }
+    {
+        self.entries.last()
     }
 
     /// What happened.

@@ -1,7 +1,12 @@
 //! What the parts of a device tell of what happened, to whoever asks why a call is refused.
-ghost use Rattle.std.specs.Prelude.{◌≡◌, ◌<◌, ◌+◌, ◌^◌, IfSome, IsSome, length};
-ghost use Rattle.frame_future.specs.Future.{asked_by, flight_of};
+ghost use Rattle.std.specs.Prelude.{◌≡◌, ◌<◌, ◌+◌, ◌^◌, ◌++◌, ◌∷◌, [], IfSome, IsSome, Some, length};
+ghost use Rattle.std.specs.Option.{option_map};
+ghost use Rattle.flight_books.specs.Kept.{AreBooks};
+ghost use Rattle.frame_future.specs.Future.{IsKept, asked_by, flight_of};
+ghost use Rattle.object_steps.specs.Objects.{tellable};
+ghost use Rattle.seq_model.specs.Histories.{History};
 ghost use Rattle.seq_model.specs.Pictures.{tiles_at};
+ghost use Rattle.seq_model.specs.declared.calls.Entry.{Entry as Entries};
 ghost use Rattle.device_parts.specs.AllParts.{AreParts};
 ghost use Rattle.device_parts.specs.Standing.{IsStanding};
 
@@ -11,6 +16,7 @@ use dev_types::Handle;
 use frame_future::Phase;
 use object_steps::Records;
 use object_store::slots::Shows;
+use seq_model::Entry;
 use std::marker::Model;
 
 /// The parts of a device whose end has not begun.
@@ -65,10 +71,34 @@ impl Records for Recorded<'_> {
 
 impl Parts {
     /// What always holds of the parts of a device.
-    pub(crate) fn are_parts(&self)
+    pub fn are_parts(&self)
         ensures { AreParts self.now }
     {
         let _objects = &self.objects;
+    }
+
+    /// What always holds of the flights, and of what is kept with each.
+    pub fn flights_are_booked(&self)
+        ensures books { AreBooks self.now.flights }
+        ensures kept { IsKept self.now.flights.future }
+    {
+        self.flights.frames().are_kept();
+    }
+
+    /// Of how many ends the client is to be told: how many arrays there are whose memory the
+    /// application gave.
+    pub fn tellable(&self) -> usize
+        ensures { result ≡ tellable self.now.objects.stored.state }
+    {
+        self.objects.tellable()
+    }
+
+    /// The last entry of the journal, if there is one.
+    pub fn last_entry(&self) -> Option<&Entry>
+        ensures { (before : History) (e : Entries) → self.now.history ≡ before ++ e ∷ []
+            → option_map (λ r. r.now) result ≡ Some e }
+    {
+        self.journal.last()
     }
 
     /// How many entries the journal has. There is room for more.

@@ -1,5 +1,5 @@
 //! Whether the journal has room for a call.
-ghost use Rattle.std.specs.Prelude.{◌≡◌, if◌then◌else◌};
+ghost use Rattle.std.specs.Prelude.{◌≡◌, ◌+◌, ◌-◌, ◌≤◌, false, length, if◌then◌else◌};
 ghost use Rattle.seq_model.specs.Room.{is_full, loans_out, need};
 ghost use Rattle.seq_model.specs.Steps.{after};
 ghost use Rattle.device_parts.specs.Standing.{IsStanding};
@@ -14,10 +14,13 @@ use seq_model::Call;
 impl Parts {
     /// Whether a journal of this length has no room for the call, where so many loans are out: for
     /// its entry, for the note of each flight and the unmap of each loan, and for the close.
-    pub(crate) fn is_full(&self, limit: u32, loans: u64, call: &Call) -> bool
+    pub fn is_full(&self, limit: u32, loans: u64, call: &Call) -> bool
         requires stands { IsStanding self.now }
         requires loans { loans ≡ loans_out (after self.now.history).state }
-        ensures { result ≡ is_full limit (after self.now.history) call.now }
+        ensures full { result ≡ is_full limit (after self.now.history) call.now }
+        ensures owed { result ≡ false → length self.now.history
+            + length self.now.flights.future.flights + loans_out (after self.now.history).state
+            + need (after self.now.history).state call.now ≤ limit - 1 }
     {
         // Their clauses tell the proof what always holds of the parts and of the flights.
         self.are_parts();

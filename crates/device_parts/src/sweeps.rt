@@ -16,7 +16,7 @@ use dev_types::Client;
 
 impl Parts {
     /// Tells the client of the ends of those that died with the last entry. Takes no memory.
-    pub(crate) fn tell<C: Client>(&mut self, client: &mut C)
+    pub fn tell<C: Client>(&mut self, client: &mut C)
         requires { untold self.old.objects ≤ C.spare client.old }
         ensures none { self.new ≡ all_told self.old }
         ensures told { C.notices client.new ≡ C.notices client.old
