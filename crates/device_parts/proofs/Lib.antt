@@ -3,6 +3,7 @@ pub mod AboardFacts
 pub mod BeginFacts
 pub mod CalledFacts
 pub mod CloseFacts
+pub mod CountFacts
 pub mod DiscardFacts
 pub mod EndFacts
 pub mod EntryFacts
@@ -16,6 +17,7 @@ pub mod LendFacts
 pub mod MoveFacts
 pub mod NotedFacts
 pub mod OnceFacts
+pub mod PlainFacts
 pub mod RecordFacts
 pub mod RenderSteps
 pub mod RenderedFacts

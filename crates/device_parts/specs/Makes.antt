@@ -1,5 +1,5 @@
 -- What goes with a call of any kind and comes back of it, and what the call does.
-use Rattle.std.specs.Prelude.{◌≡◌, Option, Some, None, if◌then◌else◌}
+use Rattle.std.specs.Prelude.{◌≡◌, ℕ, Option, Some, None, if◌then◌else◌}
 use Rattle.answered_calls.specs.Tells.{with_given}
 use Rattle.frame_future.specs.Future.{Future}
 use Rattle.frame_future.specs.Mapped.{Mapped}
@@ -67,3 +67,8 @@ abbrev pub IsMoved : Call → Reply → Option Mapped → Inside → Inside → 
 IsMoved (RenderFrame frame) r out old new = HasRendered frame r old new
 IsMoved (MapFrame h channel) r out old new = HasMappedOrStayed h channel out old new
 IsMoved call r out old new = AreMoved (move_of call r) old new
+
+-- how many flights a call begins by its reply
+abbrev pub begun_by : Call → Reply → ℕ
+begun_by (RenderFrame frame) reply.Done = 1
+begun_by call r = 0

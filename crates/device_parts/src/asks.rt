@@ -1,7 +1,7 @@
 //! Calls that may tell of a flight: whether a frame is ready, renders, and maps of its channels.
-ghost use Rattle.std.specs.Prelude.{◌≡◌, ◌+◌, ◌≤◌, [], IfOk, IsSome, OnErr, OnOk, Some};
+ghost use Rattle.std.specs.Prelude.{◌≡◌, ◌+◌, ◌<◌, ◌≤◌, [], IfOk, IsOk, IsSome, OnErr, OnOk, Some, length, true};
 ghost use Rattle.answered_calls.specs.Tells.{with_given};
-ghost use Rattle.call_answers.specs.Plain.{ShowsNoPicture};
+ghost use Rattle.call_answers.specs.Plain.{ShowsNoPicture, needs_no_memory};
 ghost use Rattle.std.specs.Option.{option_map};
 ghost use Rattle.flight_books.specs.Kept.{with_future};
 ghost use Rattle.frame_future.specs.Future.{AreHome};
@@ -53,6 +53,8 @@ impl Parts {
         ensures stands { IsStanding self.new }
         ensures home { AreHome self.old.flights.future → AreHome self.new.flights.future }
         ensures err { OnErr result (HasRoomMade self.old self.new) }
+        ensures no_memory { length self.old.history + length self.old.flights.future.flights + 1
+            < self.old.room → IsOk result }
     {
         let call = Call::FrameReady { h, wait };
         let answered = self.readiness(alloc, &call)?;
@@ -68,7 +70,8 @@ impl Parts {
         requires stands { IsStanding self.now }
         requires pictureless { ShowsNoPicture call.now }
         requires awake { IsSome (answer (after self.now.history) call.now) }
-        ensures { IfOk result (λ r. answer (after self.now.history) call.now ≡ Some r) }
+        ensures answered { IfOk result (λ r. answer (after self.now.history) call.now ≡ Some r) }
+        ensures no_memory { needs_no_memory call.now ≡ true → IsOk result }
     {
         self.are_parts();
         let recorded = Recorded::new(self);

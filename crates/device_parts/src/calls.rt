@@ -1,6 +1,7 @@
 //! Calls that change no frame: what they do to the objects is carried out, and they are entered.
-ghost use Rattle.std.specs.Prelude.{◌≡◌, ◌+◌, ◌<◌, ◌≤◌, ◌^◌, ◌++◌, ◌∷◌, [], ℕ, Bool, IfErr, IfOk, IsOk, None, OnErr, OnOk, Some, false, length};
+ghost use Rattle.std.specs.Prelude.{◌≡◌, ◌+◌, ◌<◌, ◌≤◌, ◌^◌, ◌++◌, ◌∷◌, [], ℕ, Bool, IfErr, IfOk, IsOk, None, OnErr, OnOk, Some, false, length, true};
 ghost use Rattle.std.specs.Option.{unwrap_or};
+ghost use Rattle.call_answers.specs.Plain.{needs_no_memory};
 ghost use Rattle.flight_books.specs.Kept.{with_future};
 ghost use Rattle.frame_future.specs.Future.{AreHome};
 ghost use Rattle.kept_worlds.specs.KeptMaps.{reach_at, shown_at};
@@ -17,12 +18,13 @@ ghost use Rattle.seq_model.specs.declared.calls.Entry.TheVariants.{Called};
 ghost use Rattle.world_laws.specs.Alike.{Shown as ShownWorld};
 ghost use Rattle.device_laws.specs.FramesStand.{without_pictures};
 ghost use Rattle.device_laws.specs.Replies.{AreTold};
-ghost use Rattle.device_parts.specs.Calls.{AreMoved, HasEntered, HasRoomMade, move_of, touched_by};
+ghost use Rattle.device_parts.specs.Calls.{AreMoved, HasEntered, HasPlaceToStop, HasRoomMade, move_of, touched_by};
 ghost use Rattle.device_parts.specs.Standing.{IsStanding};
 
 use crate::burials::bury;
 use crate::parts::Parts;
 use crate::records::Recorded;
+use crate::replies::share;
 use dev_types::{Handle, NoMemory};
 use kept_worlds::KeptWorlds;
 use object_steps::ArrayLoan;
@@ -70,6 +72,9 @@ impl Parts {
             (entered (after self.old.history) call) r.0 self.old.objects.stored.state with) }
         ensures returned { IfErr result (λ e. (e.1 ≡ call) × (e.2 ≡ with)) }
         ensures err { OnErr result (HasRoomMade self.old self.new) }
+        ensures no_memory { needs_no_memory call ≡ true
+            → length self.old.history + length self.old.flights.future.flights + 1 < self.old.room
+            → HasPlaceToStop call self.old.objects.stored → IsOk result }
     {
         let Ok(()) = self.make_places(1) else {
             return Err((NoMemory, call, with));
@@ -136,12 +141,14 @@ impl Parts {
             (entered (after self.old.history) call) r.0 self.old.objects.stored.state with) }
         ensures returned { IfErr result (λ e. (e.1 ≡ call) × (e.2 ≡ with)) }
         ensures err { OnErr result (HasRoomMade self.old self.new) }
+        ensures no_memory { needs_no_memory call ≡ true
+            → HasPlaceToStop call self.old.objects.stored → IsOk result }
     {
         self.are_parts();
         let Ok(decided) = self.decide(alloc, &call) else {
             return Err((NoMemory, call, with));
         };
-        let Ok(answer) = decided.reply.share(alloc) else {
+        let Ok(answer) = share(alloc, &decided.reply) else {
             return Err((NoMemory, call, with));
         };
         let Decided { cleaned, reply } = decided;
@@ -170,6 +177,7 @@ impl Parts {
             ≡ entered (after self.now.history) call.now) }
         ensures answered { IfOk result (λ d. answer (after self.now.history)
             (unwrap_or d.cleaned call.now) ≡ Some d.reply) }
+        ensures no_memory { needs_no_memory call.now ≡ true → IsOk result }
     {
         self.are_parts();
         let recorded = Recorded::new(self);
@@ -209,6 +217,7 @@ impl Parts {
             self.old.objects.stored.state with) }
         ensures returned { IfErr result (λ e. (e.1 ≡ call) × (e.2 ≡ with)) }
         ensures err { OnErr result (self.new ≡ self.old) }
+        ensures no_memory { needs_no_memory call ≡ true → IsOk result }
     {
         let place = self.entries() + 1;
         self.objects.store().counts_its_objects();

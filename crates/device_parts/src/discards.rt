@@ -1,5 +1,5 @@
 //! Frames that are discarded.
-ghost use Rattle.std.specs.Prelude.{◌≡◌, ◌+◌, ◌<◌, ◌++◌, ◌∷◌, [], IsSome, OnErr, OnOk, false, length};
+ghost use Rattle.std.specs.Prelude.{◌≡◌, ◌+◌, ◌<◌, ◌++◌, ◌∷◌, [], IsOk, IsSome, OnErr, OnOk, false, length};
 ghost use Rattle.frame_future.specs.Future.{AreHome, is_mapped};
 ghost use Rattle.seq_model.specs.Legal.{Legal};
 ghost use Rattle.seq_model.specs.State.{object_at};
@@ -35,6 +35,8 @@ impl Parts {
         ensures stands { IsStanding self.new }
         ensures home { AreHome self.new.flights.future }
         ensures err { OnErr result (HasRoomMade self.old self.new) }
+        ensures had_room { length self.old.objects.stored.state.stopped
+            < self.old.objects.stored.places → IsOk result }
     {
         self.objects.store().counts_its_objects();
         self.objects.discard(h)?;

@@ -21,6 +21,7 @@ mod notes;
 mod parts;
 mod records;
 mod renders;
+mod replies;
 mod rooms;
 mod stops;
 mod sweeps;

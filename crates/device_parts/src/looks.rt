@@ -1,6 +1,7 @@
 //! Replies that tell of a flight what the last look at it read.
-ghost use Rattle.std.specs.Prelude.{◌≡◌, [], IfErr, IfOk, OnErr, OnOk, Some, true};
+ghost use Rattle.std.specs.Prelude.{◌≡◌, ◌+◌, ◌<◌, [], IfErr, IfOk, IsOk, OnErr, OnOk, Some, length, true};
 ghost use Rattle.answered_calls.specs.Tells.{with_given};
+ghost use Rattle.call_answers.specs.Plain.{needs_no_memory};
 ghost use Rattle.flight_books.specs.Kept.{with_future};
 ghost use Rattle.frame_future.specs.Future.{AreHome};
 ghost use Rattle.object_steps.specs.Applying.{tells_of_flights};
@@ -14,6 +15,7 @@ ghost use Rattle.device_parts.specs.Looks.{AreShort, given_of};
 ghost use Rattle.device_parts.specs.Standing.{IsStanding};
 
 use crate::parts::Parts;
+use crate::replies::share;
 use answered_calls::{source_of, with_given};
 use dev_types::{Handle, NoMemory};
 use frame_future::Phase;
@@ -63,12 +65,15 @@ impl Parts {
         ensures home { AreHome self.old.flights.future → AreHome self.new.flights.future }
         ensures returned { IfErr result (λ e. e.1 ≡ call) }
         ensures err { OnErr result (HasRoomMade self.old self.new) }
+        ensures no_memory { needs_no_memory call ≡ true
+            → length self.old.history + length self.old.flights.future.flights + 1 < self.old.room
+            → IsOk result }
     {
         // Their clauses tell the proof what always holds of the parts and of the flights.
         self.are_parts();
         self.flights.frames().are_kept();
         let reply = with_given(answered, self.given(source_of(&call)));
-        let Ok(answer) = reply.share(alloc) else {
+        let Ok(answer) = share(alloc, &reply) else {
             return Err((NoMemory, call));
         };
         let Ok(()) = self.make_places(1) else {

@@ -1,15 +1,16 @@
 //! Calls of all kinds: each is refused or carried out, and entered.
-ghost use Rattle.std.specs.Prelude.{◌≡◌, ◌<◌, ◌+◌, ◌^◌, [], IfErr, IfOk, IsSome, OnErr, Some, false, length};
+ghost use Rattle.std.specs.Prelude.{◌≡◌, ◌<◌, ◌≤◌, ◌+◌, ◌^◌, [], IfErr, IfOk, IsOk, IsSome, OnErr, Some, false, length, true};
 ghost use Rattle.std.specs.Option.{option_map};
+ghost use Rattle.call_answers.specs.Plain.{needs_no_memory};
 ghost use Rattle.frame_future.specs.Future.{AreHome};
 ghost use Rattle.object_steps.specs.Applying.{tells_of_flights};
 ghost use Rattle.object_steps.specs.Carrying.{handed};
 ghost use Rattle.seq_model.specs.Answers.{answer};
 ghost use Rattle.seq_model.specs.Contents.{entered};
 ghost use Rattle.seq_model.specs.Steps.{after};
-ghost use Rattle.device_parts.specs.Calls.{AreMoved, HasEntered, HasRoomMade, move_of};
+ghost use Rattle.device_parts.specs.Calls.{AreMoved, HasEntered, HasPlaceToStop, HasRoomMade, move_of};
 ghost use Rattle.device_parts.specs.Looks.{AreShort};
-ghost use Rattle.device_parts.specs.Makes.{Hands, IsMoved, LeavesFrame, array_of, frame_left, frame_of, told_as};
+ghost use Rattle.device_parts.specs.Makes.{Hands, IsMoved, LeavesFrame, array_of, begun_by, frame_left, frame_of, told_as};
 ghost use Rattle.device_parts.specs.Standing.{IsStanding};
 
 use crate::handed::{Handed, frame_left, joined, lent_out, parted};
@@ -25,7 +26,10 @@ impl Parts {
     /// which is refused. It does not wait for a flight.
     ///
     /// # Errors
-    /// `NoMemory`; the call and the loan come back, and nothing has changed but for the room.
+    /// `NoMemory`; the call and the loan come back, and nothing has changed but for the room. Retain,
+    /// release, a question whether a frame is ready, a discard and the unmap of a frame's channel
+    /// never answer it where the journal has a place for the call, and for a discard where there is
+    /// one for the flight that it stops.
     pub fn make(
         &mut self,
         alloc: Global,
@@ -47,6 +51,9 @@ impl Parts {
             (answer (after self.old.history) (entered (after self.old.history) call)) ≡ Some r.0) }
         ensures moved { IfOk result (λ r. IsMoved (entered (after self.old.history) call) r.0
             (frame_of r.1) self.old self.new) }
+        ensures flights { IfOk result (λ r. length self.new.flights.future.flights
+            ≡ length self.old.flights.future.flights + begun_by call r.0) }
+        ensures room { IfOk result (λ r. self.old.room + begun_by call r.0 ≤ self.new.room) }
         ensures stands { IsStanding self.new }
         ensures home { AreHome self.new.flights.future }
         ensures array { IfOk result (λ r. array_of r.1 ≡ handed (length self.old.history + 1)
@@ -55,6 +62,9 @@ impl Parts {
         ensures frame { IfOk result (λ r. LeavesFrame call r.0 (frame_of with) (frame_of r.1)) }
         ensures returned { IfErr result (λ e. (e.1 ≡ call) × (e.2 ≡ with)) }
         ensures err { OnErr result (HasRoomMade self.old self.new) }
+        ensures no_memory { needs_no_memory call ≡ true
+            → length self.old.history + length self.old.flights.future.flights + 1 < self.old.room
+            → HasPlaceToStop call self.old.objects.stored → IsOk result }
     {
         match call {
             Call::RenderFrame { h } => match self.render_or_refuse(alloc, actor, h) {
@@ -101,6 +111,9 @@ impl Parts {
         ensures frame { IfOk result (λ r. frame_of r.1 ≡ frame_left r.0 (frame_of with)) }
         ensures returned { IfErr result (λ e. (e.1 ≡ call) × (e.2 ≡ with)) }
         ensures err { OnErr result (HasRoomMade self.old self.new) }
+        ensures no_memory { needs_no_memory call ≡ true
+            → length self.old.history + length self.old.flights.future.flights + 1 < self.old.room
+            → HasPlaceToStop call self.old.objects.stored → IsOk result }
     {
         let (array, frame) = parted(with);
         match self.call(alloc, actor, call, array) {

@@ -1,11 +1,12 @@
 use Rattle.std.proofs.Common.{◌≡◌, ◌∙◌, ◌+◌, ◌++◌, ◌∷◌, [], Some, length, ap, subst, sym}
-use Rattle.std.specs.Option.{IsSome}
+use Rattle.std.specs.Option.{IsSome, unwrap_or}
+use Rattle.call_answers.specs.Plain.{needs_no_memory}
 use Rattle.seq_model.specs.Legal.{Legal}
 use Rattle.seq_model.specs.State.{State, object_at}
 use Rattle.seq_model.specs.declared.calls.Call.TheVariants.{DiscardFrame, UnmapFrame}
 use Rattle.seq_model.specs.declared.calls.Entry.TheVariants.{Called}
 use Rattle.seq_model.specs.declared.calls.Reply.TheVariants as reply
-use Rattle.device_parts.specs.Calls.{move_of}
+use Rattle.device_parts.specs.Calls.{HasPlaceToStop, move_of}
 use Rattle.device_parts.specs.declared.calls.Move.TheVariants as move
 use Rattle.device_laws.proofs.GrantFacts.{discard_starts}
 use Rattle.seq_model.specs.Answers.{answer}
@@ -13,6 +14,7 @@ use Rattle.seq_model.specs.Contents.{entered}
 use Rattle.seq_model.specs.Steps.{after}
 use Rattle.object_steps.proofs.Applied.{can_be_carried, entry_is_quiet, legal, loan_comes_back}
 use Rattle.device_parts.proofs.MoveFacts.{discard_is, discarded_is_there, done_is_granted, moved_hands, nothing_moves, reads_nothing, unmap_is}
+use Rattle.device_parts.proofs.PlainFacts.{plain_entered, short_answer}
 use Rattle.device_laws.proofs.ReplyFacts.{quiet_told}
 use Rattle.device_parts.proofs.parts.Parts.answer_call.Goals as goal
 
@@ -101,7 +103,7 @@ returns-in-Ok-enter_discard-clause-handed c =
     let i = c.args.self.now in
     let is : c.parted-entry.result.0 ≡ entered (after i.history) c.args.call = c.parted-entry.ensures.entry ∙ c.in-Ok.ensures.entered in
     let moves : move_of (entered (after i.history) c.args.call) c.in-Ok-share.answer ≡ move.Discard c.in-Discard.h =
-    ap (λ r. move_of (entered (after i.history) c.args.call) r) c.in-Ok-share.ensures ∙ ap (λ call. move_of call c.in-Ok.decided.reply) (sym is) ∙ sym c.move_of.ensures ∙ c.in-Discard.is in
+    ap (λ r. move_of (entered (after i.history) c.args.call) r) c.in-Ok-share.ensures.same ∙ ap (λ call. move_of call c.in-Ok.decided.reply) (sym is) ∙ sym c.move_of.ensures ∙ c.in-Discard.is in
     moved_hands (after i.history) (length i.history + 1) i.objects.stored.state c.args.call c.in-Ok-share.answer c.args.with (λ still. let wrong : move.Nothing ≡ move.Discard c.in-Discard.h = sym still ∙ moves in absurd cc) c.requires.brings
 
 pub returns-in-Unmap-clause-handed : goal.returns-in-Unmap-clause-handed
@@ -109,5 +111,24 @@ returns-in-Unmap-clause-handed c =
     let i = c.args.self.now in
     let is : c.parted-entry.result.0 ≡ entered (after i.history) c.args.call = c.parted-entry.ensures.entry ∙ c.in-Ok.ensures.entered in
     let moves : move_of (entered (after i.history) c.args.call) c.in-Ok-share.answer ≡ move.Unmap c.in-Unmap.h c.in-Unmap.number =
-    ap (λ r. move_of (entered (after i.history) c.args.call) r) c.in-Ok-share.ensures ∙ ap (λ call. move_of call c.in-Ok.decided.reply) (sym is) ∙ sym c.move_of.ensures ∙ c.in-Unmap.is in
+    ap (λ r. move_of (entered (after i.history) c.args.call) r) c.in-Ok-share.ensures.same ∙ ap (λ call. move_of call c.in-Ok.decided.reply) (sym is) ∙ sym c.move_of.ensures ∙ c.in-Unmap.is in
     moved_hands (after i.history) (length i.history + 1) i.objects.stored.state c.args.call c.in-Ok-share.answer c.args.with (λ still. let wrong : move.Nothing ≡ move.Unmap c.in-Unmap.h c.in-Unmap.number = sym still ∙ moves in absurd cc) c.requires.brings
+
+pub returns-in_default-share-clause-no_memory : goal.returns-in_default-share-clause-no_memory
+returns-in_default-share-clause-no_memory c = λ needs place.
+    let past = after c.args.self.now.history in
+    let same : unwrap_or c.in-Ok.decided.cleaned c.args.call ≡ c.args.call = c.in-Ok.ensures.entered ∙ plain_entered past c.args.call needs in
+    c.in_default-share.ensures.no_memory (short_answer past c.args.call c.in-Ok.decided.reply needs (ap (answer past) (sym same) ∙ c.in-Ok.ensures.answered))
+
+pub returns-in-Err-clause-no_memory : goal.returns-in-Err-clause-no_memory
+returns-in-Err-clause-no_memory c = λ needs place.
+    let same : c.parted-entry.result.0 ≡ c.args.call =
+    c.parted-entry.ensures.entry ∙ c.in-Ok.ensures.entered ∙ plain_entered (after c.args.self.now.history) c.args.call needs in
+    c.in-Err.ensures.no_memory (ap needs_no_memory same ∙ needs)
+
+pub returns-in-Err-enter_discard-clause-no_memory : goal.returns-in-Err-enter_discard-clause-no_memory
+returns-in-Err-enter_discard-clause-no_memory c = λ needs place.
+    let same : c.parted-entry.result.0 ≡ c.args.call =
+    c.parted-entry.ensures.entry ∙ c.in-Ok.ensures.entered ∙ plain_entered (after c.args.self.now.history) c.args.call needs in
+    let call = discard_is c.parted-entry.result.0 c.in-Ok.decided.reply c.in-Discard.h (sym c.move_of.ensures ∙ c.in-Discard.is) in
+    c.in-Err-enter_discard.ensures.had_room (subst (λ k. HasPlaceToStop k c.args.self.now.objects.stored) (sym same ∙ call.0) place)

@@ -16,8 +16,8 @@ answer-requires-clause-answered c =
     let past : past_of c.new-device.result ≡ after i.history = ap past_of rested ∙ led i.objects.stored i.history c.are_parts.ensures.rest in
     subst (λ (past : Past). IsSome (answer past c.args.call.now)) (sym past) c.requires.awake
 
-pub returns : goal.returns
-returns c =
+pub returns-clause-answered : goal.returns-clause-answered
+returns-clause-answered c =
     let i = c.args.self.now in
     let stored = c.store.ensures ∙ ap (λ (i : Inside). i.objects.stored) c.self.view_is in
     let history = ap (λ (i : Inside). i.history) c.new-recorded.ensures in

@@ -1,0 +1,6 @@
+-- Lemmas of this crate.
+pub mod AwakeFacts
+pub mod FinishFacts
+pub mod KeepFacts
+pub mod LoanFacts
+pub mod SweptFacts
