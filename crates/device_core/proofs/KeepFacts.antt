@@ -29,9 +29,8 @@ kept_loans old new k = ap (λ (h : History). loans_out (after h).state) (kept_hi
 kept_owed : (old new : Inside) → Keeps old new → owed new ≡ owed old
 kept_owed old new k =
     let entries = ap (λ (h : History). length h) (kept_history old new k) in
-    let loans = kept_loans old new k in
     let count = k.count in
-    omega (arith, entries, loans, count)
+    omega (arith, entries, count)
 
 pub kept_device : (d : Device) (new : Inside) → IsDevice d → Keeps d.parts new → (IsStanding d.parts → IsStanding new) → IsDevice (record d { parts = new })
 kept_device d new is k stands = record {

@@ -3,4 +3,5 @@ pub mod AwakeFacts
 pub mod FinishFacts
 pub mod KeepFacts
 pub mod LoanFacts
+pub mod MadeFacts
 pub mod SweptFacts

@@ -16,8 +16,3 @@ pub swept_loans : (old new : Inside) → AreParts new → HasSwept old new → l
 swept_loans old new parts swept =
     ap (λ h. loans_out (after h).state) swept.flights.notes
     ∙ notes_keep_loans old.history (ended_by old.flights.future.flights swept.flights.reads) (subst Legal swept.flights.notes parts.rest.legal)
-
--- and as much is owed, since each note takes the place of its flight
-pub swept_owed : (old new : Inside) → AreParts new → HasSwept old new
-    → length new.history + length new.flights.future.flights ≡ length old.history + length old.flights.future.flights → owed new ≡ owed old
-swept_owed old new parts swept places = let loans = swept_loans old new parts swept in omega (arith, loans, places)

@@ -2,8 +2,6 @@
 use Rattle.std.specs.Prelude.{◌≡◌, ◌≤◌, ◌<◌, ℕ, ◌+◌, ◌-◌, ◌^◌, Bool, false, List, [], length, min}
 use Rattle.dev_types.specs.declared.notices.Notice.{Notice}
 use Rattle.object_steps.specs.Objects.{tellable}
-use Rattle.seq_model.specs.Room.{loans_out}
-use Rattle.seq_model.specs.Steps.{after}
 use Rattle.device_parts.specs.AllParts.{Inside}
 use Rattle.device_parts.specs.Standing.{IsStanding}
 
@@ -16,9 +14,9 @@ pub record Device : Type 0 where
   pub limit : ℕ
   pub ending : Bool
 
--- how many entries there are and are owed: the note of each flight, and the unmap of each loan
+-- how many entries there are, and how many notes of flights are owed
 abbrev pub owed : Inside → ℕ
-owed i = length i.history + length i.flights.future.flights + loans_out (after i.history).state
+owed i = length i.history + length i.flights.future.flights
 
 -- for how many more entries there is memory, beside the notes of the flights and the close
 abbrev pub spare_places : Inside → ℕ
@@ -32,8 +30,8 @@ spare_notices d = d.spare - tellable d.parts.objects.stored.state
 abbrev pub spare_calls : Device → ℕ
 spare_calls d = min (spare_places d.parts) (spare_notices d)
 
--- What always holds: the client was told of all that died, and has room for the ends of all; behind all
--- that is owed the journal has a place for the close; and as long as the end has not begun, what is kept
+-- What always holds: the client was told of all that died, and has room for the ends of all; behind the
+-- notes that are owed the journal has a place for the close; and as long as the end has not begun, what is kept
 -- of frames stands as the history says
 pub record IsDevice (d : Device) : Type 0 where
   pub all_told : d.parts.objects.dead ≡ []

@@ -1,6 +1,6 @@
 //! How a device ends.
-ghost use Rattle.std.specs.Prelude.{◌≡◌, ◌<◌, ◌++◌, ◌∷◌, [], IfErr, IfOk, List, Some, true};
-ghost use Rattle.std.specs.List.{slice_get};
+ghost use Rattle.std.specs.Prelude.{◌≡◌, ◌<◌, ◌++◌, ◌∷◌, [], IfErr, IfOk, IsOk, List, Some, true};
+ghost use Rattle.std.specs.List.{AllByRecursion, slice_get};
 ghost use Rattle.std.specs.Option.{option_map};
 ghost use Rattle.dev_types.specs.declared.notices.Notice.{Notice as Notices};
 ghost use Rattle.flight_books.specs.Stops.{StopsAll};
@@ -10,6 +10,7 @@ ghost use Rattle.seq_model.specs.Builds.{builds};
 ghost use Rattle.seq_model.specs.Legal.{Legal};
 ghost use Rattle.seq_model.specs.Told.{told};
 ghost use Rattle.seq_model.specs.declared.calls.Entry.TheVariants.{Closed as Closes};
+ghost use Rattle.tile_claims.specs.Views.{IsAlone};
 ghost use Rattle.device_parts.specs.Looks.{AreShort};
 ghost use Rattle.device_parts.specs.Uses.{NothingGoneIsUsed};
 ghost use Rattle.device_core.specs.Finishing.{Halts, IsFirstLook};
@@ -34,7 +35,8 @@ impl<C: Client> DeviceState<C> {
     /// # Errors
     /// Exactly where a flight is left, of which a claim is open: of the first one how many tiles a look
     /// in this call read as given, and how many were claimed when it was stopped, which are more. The
-    /// device comes back; it may be finished later, asked for work, or dropped.
+    /// device comes back; it may be finished later, asked for work, or dropped. It is no error where no
+    /// seat of any flight was handed out.
     pub fn finish(self) -> Result<Closed<C>, (DeviceState<C>, u64, u64)>
         requires home { AreHome self.parts.flights.future }
         ensures closed { IfOk result (λ c. (left : Device) × Halts self left
@@ -47,6 +49,8 @@ impl<C: Client> DeviceState<C> {
             → C.notices c.client ≡ before ++ told c.journal) }
         ensures open_ { IfErr result (λ e. Halts self e.0
             × IsFirstLook e.0 e.1 e.2 × (e.1 < e.2)) }
+        ensures alone { AllByRecursion (λ f. IsAlone f.view) self.parts.flights.future.flights
+            → IsOk result }
         ensures home { IfErr result (λ e. AreHome e.0.parts.flights.future) }
         ensures unused { IfErr result (λ e. NothingGoneIsUsed e.0.parts) }
     {
@@ -62,12 +66,16 @@ impl<C: Client> DeviceState<C> {
     fn halt(&mut self)
         requires home { AreHome self.old.parts.flights.future }
         ensures halts { Halts self.old self.new }
+        ensures alone { AllByRecursion (λ f. IsAlone f.view) self.old.parts.flights.future.flights
+            → self.new.parts.flights.future.flights ≡ [] }
         ensures home { AreHome self.new.parts.flights.future }
         ensures short { AreShort self.new.parts.flights.future }
         ensures unused { NothingGoneIsUsed self.new.parts }
     {
         self.sweep();
         self.stop_all();
+        // Its clause tells the proof what always holds of the flights.
+        self.parts.flights_are_booked();
         self.sweep();
     }
 

@@ -17,8 +17,7 @@ none_owed : (i : Inside) → i.history ≡ [] → i.flights.future ≡ nothing �
 none_owed i empty none =
     let entries = ap (λ (h : History). length h) empty in
     let flights = ap (λ (s : Future). length s.flights) none in
-    let loans = none_lent i empty in
-    omega (arith, entries, flights, loans)
+    omega (arith, entries, flights)
 
 none_tellable : (i : Inside) → AreParts i → i.history ≡ [] → tellable i.objects.stored.state ≡ 0
 unfolding after
