@@ -46,6 +46,8 @@ impl Parts {
             ≤ C.spare client.new + length (C.notices client.new) }
         ensures left { C.spare client.old + tellable self.new.objects.stored.state
             ≤ C.spare client.new + tellable self.old.objects.stored.state }
+        ensures fewer { tellable self.new.objects.stored.state
+            ≤ tellable self.old.objects.stored.state }
         ensures short { AreShort self.new.flights.future }
         ensures stands { IsStanding self.old → IsStanding self.new }
     {

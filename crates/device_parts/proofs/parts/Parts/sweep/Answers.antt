@@ -17,7 +17,7 @@ loop-ticket-init g c =
     let old = c.args.self.now in
     let above = subst (λ (i : Inside). AllByRecursion (λ (f : Flying). 0 < f.ticket) i.flights.future.flights) c.self.view_is
     (firsts c.self.inside.flights.future.flights c.self.inside.flights.cargo c.frames-flights.ensures.books.cargo) in
-    (sweeping_begins old c.requires.home c.requires.all_told above, c.requires.spare, (λ before is. is), (let same : g.C.Client.spare c.args.client.now + length (g.C.Client.notices c.args.client.now) ≤ g.C.Client.spare c.args.client.now + length (g.C.Client.notices c.args.client.now) = omega arith in same), (λ stands. stands), refl, (let same : g.C.Client.spare c.args.client.now + tellable c.args.self.now.objects.stored.state ≤ g.C.Client.spare c.args.client.now + tellable c.args.self.now.objects.stored.state = omega arith in same))
+    (sweeping_begins old c.requires.home c.requires.all_told above, c.requires.spare, (λ before is. is), (let same : g.C.Client.spare c.args.client.now + length (g.C.Client.notices c.args.client.now) ≤ g.C.Client.spare c.args.client.now + length (g.C.Client.notices c.args.client.now) = omega arith in same), (λ stands. stands), refl, (let same : g.C.Client.spare c.args.client.now + tellable c.args.self.now.objects.stored.state ≤ g.C.Client.spare c.args.client.now + tellable c.args.self.now.objects.stored.state = omega arith in same), (let same : tellable c.args.self.now.objects.stored.state ≤ tellable c.args.self.now.objects.stored.state = omega arith in same))
 
 pub loop-ticket-smaller : goal.loop-ticket-smaller
 loop-ticket-smaller g c =
@@ -48,7 +48,8 @@ loop-ticket-preserved g c =
     let so_far = before.3 in
     let places = one_noted now mid c.loop-ticket.last c.in-Some.ticket noted in
     let so_placed = before.5 in
-    let left = before.6 in (
+    let left = before.6 in
+    let no_more = before.7 in (
       subst (λ i. IsSweeping old i c.in-Some.ticket) (sym c.tell.ensures.none) on,
       omega (arith, spare, fewer, room, same),
       (λ first is. c.tell.ensures.told ∙ ap (λ ns. ns ++ filter_map notice_of mid.objects.dead) (before.2 first is) ∙ append_assoc first (told now.history) (filter_map notice_of mid.objects.dead)
@@ -57,6 +58,7 @@ loop-ticket-preserved g c =
       (λ stands. subst IsStanding (sym c.tell.ensures.none) (stands_told mid (c.note_next.ensures.stands (before.4 stands)))),
       ap (λ (i : Inside). length i.history + length i.flights.future.flights) c.tell.ensures.none ∙ places ∙ so_placed,
       omega (arith, left, fewer, room, same),
+      omega (arith, no_more, fewer, same),
     )
 
 pub returns-clause-swept : goal.returns-clause-swept
@@ -75,3 +77,7 @@ returns-clause-places g c =
 pub returns-clause-left : goal.returns-clause-left
 returns-clause-left g c =
     let left = c.loop-ticket.invariant.6 in let same = none_to_tell c.loop-ticket.self c.note_next.new.self c.loop-ticket.last c.in_default.ensures.noted in omega (arith, left, same)
+
+pub returns-clause-fewer : goal.returns-clause-fewer
+returns-clause-fewer g c =
+    let fewer = c.loop-ticket.invariant.7 in let same = none_to_tell c.loop-ticket.self c.note_next.new.self c.loop-ticket.last c.in_default.ensures.noted in omega (arith, fewer, same)

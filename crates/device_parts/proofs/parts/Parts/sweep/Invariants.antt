@@ -14,6 +14,7 @@ invariant-loop-ticket g l =
     × (IsStanding l.fn.self → IsStanding l.self)
     × (length l.self.history + length l.self.flights.future.flights ≡ length l.fn.self.history + length l.fn.self.flights.future.flights)
     × (g.C.Client.spare l.fn.client + tellable l.self.objects.stored.state ≤ g.C.Client.spare l.client + tellable l.fn.self.objects.stored.state)
+    × (tellable l.self.objects.stored.state ≤ tellable l.fn.self.objects.stored.state)
 
 abbrev pub decreases-loop-ticket : goal.decreases-loop-ticket
 decreases-loop-ticket g l = length l.self.flights.future.flights
