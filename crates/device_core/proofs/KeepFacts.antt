@@ -36,6 +36,7 @@ pub kept_device : (d : Device) (new : Inside) → IsDevice d → Keeps d.parts n
 kept_device d new is k stands = record {
   all_told = ap (λ (i : Inside). i.objects.dead) k.rest ∙ is.all_told;
   spare = subst (λ n. n ≤ d.spare) (sym (ap (λ (i : Inside). tellable i.objects.stored.state) k.rest)) is.spare;
+  counted = subst (λ (i : Inside). tellable i.objects.stored.state ≤ length i.history) (sym k.rest) is.counted;
   within = subst (λ n. n < d.limit) (sym (kept_owed d.parts new k)) is.within;
   limit = is.limit;
   stands = λ going. stands (is.stands going);

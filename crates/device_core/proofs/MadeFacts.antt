@@ -1,5 +1,5 @@
 -- What a call leaves of a device.
-use Rattle.std.proofs.Common.{◌≡◌, ◌∙◌, ◌+◌, ◌-◌, ◌<◌, ◌≤◌, ◌++◌, ◌∷◌, ◌==◌, ◌&&◌, [], ℕ, zero, suc, Bool, true, false, cond, List, Option, Some, None, length, length-append, append_assoc, refl, sym, ap, subst, arith}
+use Rattle.std.proofs.Common.{◌≡◌, ◌∙◌, ◌+◌, ◌-◌, ◌<◌, ◌≤◌, ◌++◌, ◌∷◌, ◌==◌, ◌&&◌, [], ℕ, zero, suc, Bool, true, false, cond, List, Option, Some, None, length, length-append, min, append_assoc, refl, sym, ap, subst, arith}
 use Rattle.std.specs.Prelude.{if◌then◌else◌}
 use Rattle.std.specs.BTreeMap.{is_at}
 use Rattle.std.specs.List.{filter_map, list_any, sum_by}
@@ -131,3 +131,8 @@ within_after limit entries flights loans needed begun entries_now flights_now so
 
 pub one_longer : (history : History) (e : Entry) (now : History) → now ≡ history ++ e ∷ [] → length now ≡ length history + 1
 one_longer history e now is = ap length is ∙ length-append history (e ∷ [])
+
+-- and memory for one call less is left
+pub one_less : (places notices places_now notices_now : ℕ) → places ≤ places_now + 1 → notices ≤ notices_now + 1
+    → min places notices ≤ min places_now notices_now + 1
+one_less places notices places_now notices_now some more = omega (arith, some, more)

@@ -1,5 +1,5 @@
 -- What a sweep leaves of a device.
-use Rattle.std.proofs.Common.{◌≡◌, ◌∙◌, ◌++◌, ◌+◌, ◌<◌, ◌≤◌, length, ap, arith, subst}
+use Rattle.std.proofs.Common.{◌≡◌, ◌∙◌, ◌++◌, ◌+◌, ◌<◌, ◌≤◌, length, length-append, ap, arith, subst}
 use Rattle.flight_books.specs.Sweeps.{notes_of}
 use Rattle.frame_future.specs.Reads.{ended_by}
 use Rattle.object_steps.specs.Resting.{IsAtRest}
@@ -16,3 +16,8 @@ pub swept_loans : (old new : Inside) → AreParts new → HasSwept old new → l
 swept_loans old new parts swept =
     ap (λ h. loans_out (after h).state) swept.flights.notes
     ∙ notes_keep_loans old.history (ended_by old.flights.future.flights swept.flights.reads) (subst Legal swept.flights.notes parts.rest.legal)
+
+-- the history is no shorter
+pub swept_longer : (old new : Inside) → HasSwept old new → length old.history ≤ length new.history
+swept_longer old new swept =
+    let grown = ap length swept.flights.notes ∙ length-append old.history (notes_of old.flights.future.flights swept.flights.reads) in omega (arith, grown)

@@ -30,12 +30,13 @@ spare_notices d = d.spare - tellable d.parts.objects.stored.state
 abbrev pub spare_calls : Device → ℕ
 spare_calls d = min (spare_places d.parts) (spare_notices d)
 
--- What always holds: the client was told of all that died, and has room for the ends of all; behind the
--- notes that are owed the journal has a place for the close; and as long as the end has not begun, what is kept
--- of frames stands as the history says
+-- What always holds: the client was told of all that died, and has room for the ends of all, of which there
+-- are no more than entries; behind the notes that are owed the journal has a place for the close; and as long
+-- as the end has not begun, what is kept of frames stands as the history says
 pub record IsDevice (d : Device) : Type 0 where
   pub all_told : d.parts.objects.dead ≡ []
   pub spare : tellable d.parts.objects.stored.state ≤ d.spare
+  pub counted : tellable d.parts.objects.stored.state ≤ length d.parts.history
   pub within : owed d.parts < d.limit
   pub limit : d.limit ≤ 2 ^ 20
   pub stands : d.ending ≡ false → IsStanding d.parts

@@ -1,5 +1,5 @@
 //! Calls of the application.
-ghost use Rattle.std.specs.Prelude.{◌≡◌, ◌++◌, ◌∷◌, ◌+◌, ◌-◌, ◌<◌, ◌≤◌, ◌^◌, [], IfErr, IfOk, IsSome, false, length};
+ghost use Rattle.std.specs.Prelude.{◌≡◌, ◌++◌, ◌∷◌, ◌+◌, ◌-◌, ◌<◌, ◌≤◌, ◌^◌, [], IfErr, IfOk, IsSome, OnOk, false, length};
 ghost use Rattle.frame_future.specs.Future.{AreHome};
 ghost use Rattle.room_laws.specs.Loans.{lends, takes_back};
 ghost use Rattle.seq_model.specs.Answers.{answer};
@@ -11,6 +11,7 @@ ghost use Rattle.seq_model.specs.declared.calls.Entry.{Entry as Entries};
 ghost use Rattle.device_parts.specs.Looks.{AreShort};
 ghost use Rattle.device_parts.specs.Makes.{Hands};
 ghost use Rattle.device_parts.specs.Uses.{NothingGoneIsUsed};
+ghost use Rattle.device_core.specs.States.{spare_calls};
 ghost use Rattle.device_core.specs.Sweeping.{Sweeps};
 ghost use Rattle.device_core.specs.Stepping.{Declines, HasDeclined, HasMade, HasStepped, IsAwake};
 
@@ -46,6 +47,7 @@ impl<C: Client> DeviceState<C> {
         ensures stepped { IfOk result (λ r. HasStepped actor call with r.0 r.1 self.old self.new) }
         ensures declined { IfErr result (λ e. HasDeclined call e.0 self.old self.new) }
         ensures returned { IfErr result (λ e. (e.1 ≡ call) × (e.2 ≡ with)) }
+        ensures spare { OnOk result (spare_calls self.old ≤ spare_calls self.new + 1) }
         ensures going { self.new.ending ≡ false }
         ensures home { AreHome self.new.parts.flights.future }
     {

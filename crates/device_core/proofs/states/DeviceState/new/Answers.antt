@@ -32,6 +32,7 @@ invariant_of-result g c =
     (record {
       all_told = c.in-Ok.ensures.objects;
       spare = omega (arith, told_none);
+      counted = omega (arith, told_none);
       within = omega (arith, owed_none, some);
       limit = c.requires.few;
       stands = λ going. c.in-Ok.ensures.stands;
