@@ -60,7 +60,7 @@ no_array : (past : Past) (place : ℕ) (call : Call) (r : Reply) (s : State) (m 
 unfolding entered
 no_array past place (UnmapFrame h number) (reply.Denied refused) s m brings = refl
 no_array past place (UnmapFrame h number) r s m brings = refl
-no_array past place call r s m brings = absurd cc
+no_array past place call r s m brings = absurd brings
 
 pub frame_kept : (past : Past) (place : ℕ) (call : Call) (r : Reply) (s : State) (with : Handed) (out : ArrayLoan) → Hands call with
     → out ≡ handed place (entered past call) r s (array_of with)
@@ -135,4 +135,15 @@ leaves_plain call r brought out quiet is = is
 pub left_of_none : (call : Call) (r : Reply) (brought : Option Mapped) → tells_of_flights call ≡ true → BringsFrame call brought → brought ≡ frame_left r brought
 left_of_none call r None tells brings = sym (left_none r)
 left_of_none (UnmapFrame h number) r (Some m) tells brings = absurd cc
-left_of_none call r (Some m) tells brings = absurd cc
+left_of_none call r (Some m) tells brings = absurd brings
+
+pub none_goes : (call made : Call) (with : Handed) → call ≡ made → tells_of_flights made ≡ true → Hands call with → array_of with ≡ loan.Nothing
+none_goes call made with is tells hands = nothing_brought call (array_of with) (ap tells_of_flights is ∙ tells) hands.0
+
+-- the other calls tell of no flight
+pub is_quiet : (call : Call) → ((h : ℕ) → call ≡ RenderFrame h → ⊥) → ((h : ℕ) (wait : Bool) → call ≡ FrameReady h wait → ⊥)
+    → ((h : ℕ) (channel : Channel) → call ≡ MapFrame h channel → ⊥) → tells_of_flights call ≡ false
+is_quiet (RenderFrame h) renders asks maps = absurd (renders h refl)
+is_quiet (FrameReady h wait) renders asks maps = absurd (asks h wait refl)
+is_quiet (MapFrame h channel) renders asks maps = absurd (maps h channel refl)
+is_quiet call renders asks maps = refl

@@ -298,6 +298,8 @@ module _ (old : Inside) (actor f : ℕ) (p : AreParts old) (legal : Legal (old.h
             ∙ ap (λ h. scene_at h (length old.history + 1)) (sym grown);
         fresh = takes.new;
         unclaimed = takes.unclaimed;
+        in_time = takes.in_time;
+        sized = takes.sized;
         begins = flights;
       }
 
@@ -310,5 +312,7 @@ begun_before f room old new b = record {
   scene = b.scene;
   fresh = b.fresh;
   unclaimed = b.unclaimed;
+  in_time = b.in_time;
+  sized = b.sized;
   begins = b.begins;
 }

@@ -1,5 +1,5 @@
 -- What a render begins.
-use Rattle.std.specs.Prelude.{ℕ, ◌≡◌, ◌==◌, ◌+◌, ◌++◌, ◌∷◌, [], Bool, length, Option, None, Some, if◌then◌else◌}
+use Rattle.std.specs.Prelude.{ℕ, ◌≡◌, ◌==◌, ◌+◌, ◌++◌, ◌∷◌, [], Bool, false, length, Option, None, Some, if◌then◌else◌}
 use Rattle.std.specs.Option.{is_some, option_and_then, option_map}
 use Rattle.dev_types.specs.Words.{name_of_channel}
 use Rattle.dev_types.specs.declared.handles.Channel.{Channel}
@@ -42,18 +42,21 @@ with_takeoff t b = record {
 }
 
 -- what a flight of frame f begins with under a ticket: claims of the scene of its load, of which none is
--- claimed, as the one look at them read, and the channels for which the frame asks
+-- claimed, as the one look at them read, nor any claim too late, and the channels for which the frame
+-- asks
 pub record IsTakeoff (objects : SceneObjects) (ticket f : ℕ) (load : Load) (t : Takeoff) : Type 0 where
   pub cargo : t.cargo ≡ record { ticket = ticket; frame = f; kept = load }
   pub scene : scene_of_load load ≡ Some (scene_of (key_of t.claims))
   pub new : IsNew t.claims t.seat
   pub unclaimed : (view t.seat).claims ≡ looked no_looks 0
+  pub in_time : (view t.seat).late ≡ false
   pub sized : IsSized (key_of t.claims)
   pub asked : (c : Channel) → is_asked t.channels c ≡ asks_in objects f c
 
 -- A flight of frame f began: its ticket is the place of its render, its claims are of the scene of the
--- render, and no tile of it is claimed: one look was made at how many are, and it read 0. Of the frames
--- that died no picture is left
+-- render, at a size that frames may have, and no tile of it is claimed: one look was made at how many
+-- are, and it read 0. Nor came a claim of its first seat too late. Of the frames that died no picture is
+-- left
 pub record HasBegun (f : ℕ) (old new : Inside) : Type 0 where
   pub takeoff : Takeoff
   pub ticket : takeoff.cargo.ticket ≡ length old.history + 1
@@ -61,5 +64,7 @@ pub record HasBegun (f : ℕ) (old new : Inside) : Type 0 where
   pub scene : scene_of (key_of takeoff.claims) ≡ scene_at new.history (length old.history + 1)
   pub fresh : IsNew takeoff.claims takeoff.seat
   pub unclaimed : (view takeoff.seat).claims ≡ looked no_looks 0
+  pub in_time : (view takeoff.seat).late ≡ false
+  pub sized : IsSized (key_of takeoff.claims)
   pub begins : new.flights ≡ with_future (with_takeoff takeoff old.flights)
       (without_pictures (with_takeoff takeoff old.flights).future new.objects.departed)

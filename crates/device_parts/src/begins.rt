@@ -147,8 +147,10 @@ fn look_at_new(claims: &Claims, seat: &mut Seat)
     requires new { IsNew claims.now seat.old }
     requires sized { IsSized (key_of claims.now) }
     requires unseen { (view seat.old).claims ≡ no_looks }
+    requires in_time { (view seat.old).late ≡ false }
     ensures new { IsNew claims.now seat.new }
     ensures unclaimed { (view seat.new).claims ≡ looked no_looks 0 }
+    ensures in_time { (view seat.new).late ≡ false }
 {
     claims.claimed(seat);
 }

@@ -1,5 +1,5 @@
 //! What is kept with a flight, and what its tiles are claimed and rendered with.
-ghost use Rattle.std.specs.Prelude.{◌≡◌, IfOk};
+ghost use Rattle.std.specs.Prelude.{◌≡◌, IfOk, false};
 ghost use Rattle.frame_future.specs.Flights.{IsNew};
 ghost use Rattle.frame_future.specs.Pixels.{IsSized};
 ghost use Rattle.picture_model.specs.Limits.{IsSceneWithin};
@@ -90,6 +90,7 @@ impl PreparedScene {
         ensures scene { IfOk result (λ c. scene_of (key_of c.0) ≡ scene_prepared self.now) }
         ensures new { IfOk result (λ c. IsNew c.0 c.1) }
         ensures unseen { IfOk result (λ c. (view c.1).claims ≡ no_looks) }
+        ensures in_time { IfOk result (λ c. (view c.1).late ≡ false) }
         ensures sized { IfOk result (λ c. IsSized (key_of c.0)) }
     {
         Claims::new(alloc, self.key())
