@@ -40,7 +40,7 @@ pub record HasMade (actor : ℕ) (call : Call) (with : Handed) (r : Reply) (out 
       (answer (after old.parts.history) (entered (after old.parts.history) call)) ≡ Some r
   pub moved : IsMoved (entered (after old.parts.history) call) r (frame_of out) old.parts made
   pub array : array_of out
-      ≡ handed (length old.parts.history + 1) (entered (after old.parts.history) call) r old.parts.objects.stored.state (array_of with)
+      ≡ handed (length old.parts.history + 1) (entered (after old.parts.history) call) r (after old.parts.history).state (array_of with)
   pub frame : LeavesFrame call r (frame_of with) (frame_of out)
   pub parts : new.parts ≡ all_told made
   pub told : TellsOn old new

@@ -1,7 +1,7 @@
 //! The state of a device.
 ghost use Rattle.std.specs.Prelude.{◌≡◌, ◌≤◌, ◌^◌, [], IfErr, IfOk, false, length};
 ghost use Rattle.std.specs.Option.{option_map};
-ghost use Rattle.frame_future.specs.Future.{flight_of, nothing};
+ghost use Rattle.frame_future.specs.Future.{IsKept, flight_of, nothing};
 ghost use Rattle.seq_model.specs.Refusals.{phase_at};
 ghost use Rattle.seq_model.specs.State.{ticket_in};
 ghost use Rattle.seq_model.specs.Steps.{after};
@@ -82,13 +82,15 @@ impl<C: Client> DeviceState<C> {
         }
     }
 
-    /// What always holds of a device, and of its parts.
+    /// What always holds of a device, of its parts, and of its flights.
     pub fn is_device(&self)
         ensures state { IsDevice self.now }
         ensures parts { AreParts self.now.parts }
+        ensures kept { IsKept self.now.parts.flights.future }
     {
         let _limit = self.limit;
         self.parts.are_parts();
+        self.parts.flights_are_booked();
     }
 
     /// How many entries the journal has.

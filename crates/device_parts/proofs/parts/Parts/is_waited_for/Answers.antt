@@ -1,6 +1,7 @@
 use Rattle.std.proofs.Common.{◌≡◌, ◌∙◌, ◌==◌, ◌&&◌, ◌<◌, ℕ, zero, suc, true, not, refl, ap, sym, subst, arith}
 use Rattle.std.specs.Prelude.{nat_lt}
 use Rattle.std.specs.Option.{is_some}
+use Rattle.std.proofs.Math.Dec.{eqb-suc-zero}
 use Rattle.std.proofs.lemmas.Bool.{lt-ltb}
 use Rattle.object_steps.proofs.Standings.{led}
 use Rattle.object_steps.specs.Resting.{past_of}
@@ -14,7 +15,7 @@ use Rattle.device_parts.proofs.parts.Parts.is_waited_for.Goals as goal
 -- more than none
 not_none : (n : ℕ) → not (n == 0) ≡ nat_lt 0 n
 not_none zero = refl
-not_none (suc n) = let some : 0 < suc n = omega arith in sym (lt-ltb 0 (suc n) some)
+not_none (suc n) = let some : 0 < suc n = omega arith in ap not (eqb-suc-zero n) ∙ sym (lt-ltb 0 (suc n) some)
 
 pub returns-then-is_some : goal.returns-then-is_some
 returns-then-is_some c =
