@@ -28,11 +28,11 @@ left_alone : (fs : List Flying) (reads : List ℕ) → AllByRecursion (λ f. IsA
 left_alone [] [] alone = tt
 left_alone [] (read ∷ reads) alone = tt
 left_alone (f ∷ fs) [] alone = tt
-left_alone (f ∷ fs) (read ∷ reads) alone = by (is_end f read)
+left_alone (f ∷ fs) (read ∷ reads) alone = by (is_end f read) (left_alone fs reads alone.1)
   where
-    by : (b : Bool) → AllByRecursion (λ f. IsAlone f.view) (if b then left_by fs reads else looked_at read f ∷ left_by fs reads)
-    by true = left_alone fs reads alone.1
-    by false = (alone.0, left_alone fs reads alone.1)
+    by : (b : Bool) → AllByRecursion (λ f. IsAlone f.view) (left_by fs reads) → AllByRecursion (λ f. IsAlone f.view) (if b then left_by fs reads else looked_at read f ∷ left_by fs reads)
+    by true rest = rest
+    by false rest = (alone.0, rest)
 
 -- so none is left at the end where no seat was handed out
 pub none_left : (old swept stopped new : Inside) → HasSwept old swept → StopsAll swept.flights stopped.flights → AreBooks stopped.flights → HasSwept stopped new

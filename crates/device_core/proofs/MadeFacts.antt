@@ -8,9 +8,10 @@ use Rattle.std.specs.Option.{option_and_then, option_map_or}
 use Rattle.std.specs.Ordering.{nat_cmp}
 use Rattle.std.proofs.lemmas.List.Sums.{sum_by-cons}
 use Rattle.dev_types.specs.declared.handles.Channel.{Channel}
+use Rattle.dev_types.specs.declared.handles.Origin.TheVariants.{Captured, Managed, Shared}
 use Rattle.dev_types.specs.declared.notices.Notice.{Notice}
 use Rattle.object_steps.specs.Objects.{one_if, takes_memory}
-use Rattle.object_steps.proofs.Applied.{once_told}
+use Rattle.object_steps.proofs.Applied.{one_status}
 use Rattle.seq_model.specs.Histories.{History}
 use Rattle.seq_model.specs.Life.{loan_count}
 use Rattle.seq_model.specs.Refusals.{is_array_loan_out, is_array_out, is_channel_out, is_parameter_loan_out, is_parameter_out}
@@ -19,7 +20,7 @@ use Rattle.seq_model.specs.State.{ArrayState, Object, ParameterLoan, State, obje
 use Rattle.seq_model.specs.Steps.{after}
 use Rattle.seq_model.specs.Told.{status_at, told, told_by}
 use Rattle.seq_model.specs.declared.calls.Call.{Call}
-use Rattle.seq_model.specs.declared.calls.Call.TheVariants.{RenderFrame, UnmapArray, UnmapFrame, UnmapParameterArray}
+use Rattle.seq_model.specs.declared.calls.Call.TheVariants.{NewArray, RenderFrame, UnmapArray, UnmapFrame, UnmapParameterArray}
 use Rattle.seq_model.specs.declared.calls.Entry.{Entry}
 use Rattle.seq_model.specs.declared.calls.Entry.TheVariants.{Called}
 use Rattle.seq_model.specs.declared.calls.Reply.{Reply}
@@ -27,14 +28,14 @@ use Rattle.seq_model.specs.declared.calls.Reply.TheVariants as reply
 use Rattle.seq_model.proofs.Tellings.{told_more}
 use Rattle.device_parts.specs.Makes.{begun_by}
 
--- a call tells a status, or takes memory whose end is to be told, or neither, whoever made it
-status_of_any : (actor : ℕ) (call : Call) (r : Reply) → status_at (Called actor call r) ≡ status_at (Called 0 call r)
-status_of_any actor call (reply.Denied refused) = refl
-status_of_any actor call r = refl
-
+-- a call tells a status, or takes memory whose end is to be told, or neither
 pub one_notice : (actor : ℕ) (call : Call) (r : Reply) → length (status_at (Called actor call r)) + one_if (takes_memory call r) ≤ 1
-one_notice actor call r =
-    subst (λ (l : List Notice). length l + one_if (takes_memory call r) ≤ 1) (sym (status_of_any actor call r)) (once_told call r)
+one_notice actor (NewArray elem count stride (Captured user) bytes) (reply.Made made) = omega arith
+one_notice actor (NewArray elem count stride (Shared user) bytes) (reply.Made made) = omega arith
+one_notice actor (NewArray elem count stride Managed bytes) (reply.Made made) = omega arith
+one_notice actor (NewArray elem count stride origin bytes) (reply.Denied refused) =
+    omega (arith, one_status actor (NewArray elem count stride origin bytes) (reply.Denied refused))
+one_notice actor call r = omega (arith, one_status actor call r)
 
 -- so one place for a notice, beside the ends that are to be told, is enough for a call
 pub spare_after : (before after untold status memory reserved said left : ℕ) → status + memory ≤ 1 → before + 1 ≤ reserved
@@ -136,3 +137,21 @@ one_longer history e now is = ap length is ∙ length-append history (e ∷ [])
 pub one_less : (places notices places_now notices_now : ℕ) → places ≤ places_now + 1 → notices ≤ notices_now + 1
     → min places notices ≤ min places_now notices_now + 1
 one_less places notices places_now notices_now some more = omega (arith, some, more)
+
+-- memory for one entry less, and for one notice less, is left at most
+pub places_less : (room entries flights begun entries_now flights_now room_now : ℕ) → entries_now ≡ entries + 1 → flights_now ≡ flights + begun → room + begun ≤ room_now
+    → room - (entries + flights + 1) ≤ room_now - (entries_now + flights_now + 1) + 1
+places_less room entries flights begun entries_now flights_now room_now one more grows = omega (arith, one, more, grows)
+
+pub notices_less : (spare before after untold status memory reserved said left : ℕ) → spare ≤ reserved → status + memory ≤ 1
+    → said + status ≡ reserved → said ≤ left + untold → after + untold ≡ before + memory → spare - before ≤ left - after + 1
+notices_less spare before after untold status memory reserved said left grows once used told fewer = omega (arith, grows, once, used, told, fewer)
+
+-- no more ends are to be told than there are entries
+pub counted_after : (before after untold status memory entries entries_now : ℕ) → before ≤ entries → status + memory ≤ 1 → after + untold ≡ before + memory → entries_now ≡ entries + 1
+    → after ≤ entries_now
+counted_after before after untold status memory entries entries_now was once fewer one = omega (arith, was, once, fewer, one)
+
+-- the loans that were counted
+pub loans_are : (loans out out_now lent back result : ℕ) → result ≡ loans + lent - back → loans ≡ out → out_now + back ≡ out + lent → result ≡ out_now
+loans_are loans out out_now lent back result is counted moved = omega (arith, is, counted, moved)

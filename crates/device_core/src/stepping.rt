@@ -100,7 +100,8 @@ impl<C: Client> DeviceState<C> {
         ensures home { AreHome self.new.parts.flights.future }
         ensures unused { NothingGoneIsUsed self.new.parts }
     {
-        // Its clause tells the proof how long the journal is at most.
+        // Their clauses tell the proof what always holds of the parts, and how long the journal is at most.
+        self.parts.are_parts();
         let _entries = self.parts.entries();
         if self.parts.is_full(self.limit, self.loans, &call) {
             self.parts.use_nothing_gone();
