@@ -1,17 +1,15 @@
 -- Calls that leave all of a device but what is known of its flights.
-use Rattle.std.proofs.Common.{suc, ◌≡◌, ◌∙◌, ◌+◌, ◌<◌, ◌≤◌, ℕ, Bool, true, false, List, [], ◌∷◌, Option, Some, None, length, refl, sym, ap, subst, arith}
+use Rattle.std.proofs.Common.{suc, ◌≡◌, ◌∙◌, ◌<◌, ◌≤◌, ℕ, Bool, true, false, List, [], ◌∷◌, Option, Some, None, length, refl, sym, ap, subst, arith}
 use Rattle.std.specs.Prelude.{IfNone, IfSome, if◌then◌else◌}
-use Rattle.frame_future.specs.Flights.{Flying, back}
+use Rattle.frame_future.specs.Flights.{Flying}
 use Rattle.frame_future.specs.Future.{Future, replaced}
-use Rattle.flight_books.specs.Kept.{Books}
 use Rattle.object_steps.specs.Objects.{tellable}
 use Rattle.seq_model.specs.Histories.{History}
 use Rattle.seq_model.specs.Room.{loans_out}
 use Rattle.seq_model.specs.Steps.{after}
 use Rattle.world_snapshot.specs.declared.works.Work.{Work}
 use Rattle.device_parts.specs.AllParts.{Inside}
-use Rattle.device_parts.specs.declared.loads.Load.{Load}
-use Rattle.device_parts.specs.Lends.{HasLent, HasReturned, IsLent}
+use Rattle.device_parts.specs.Lends.{HasLentFlight, HasReturned, IsLentFlight}
 use Rattle.device_parts.specs.Standing.{IsStanding}
 use Rattle.device_core.specs.States.{Device, IsDevice, owed}
 
@@ -51,7 +49,7 @@ replaced_count : (p : Flying → Bool) (f : Flying) (fs : List Flying) → lengt
 replaced_count p f [] = refl
 replaced_count p f (g ∷ gs) = one_more (p g) f g (replaced p f gs) gs (replaced_count p f gs)
 
-pub lent_keeps : (result : Option Work) (h : ℕ) (old new : Inside) → IfSome result (HasLent h old new) → IfNone result (new ≡ old) → Keeps old new
+pub lent_keeps : (result : Option Work) (h : ℕ) (old new : Inside) → IfSome result (HasLentFlight h old new) → IfNone result (new ≡ old) → Keeps old new
 lent_keeps (Some work) h old new lent same = record {
   rest = lent.rest;
   count = ap (λ (s : Future). length s.flights) lent.away ∙ replaced_count _ _ old.flights.future.flights;
@@ -61,7 +59,7 @@ lent_keeps None h old new lent same = record {
   count = ap (λ (i : Inside). length i.flights.future.flights) same;
 }
 
-pub returned_keeps : (old new : Inside) (work : Work) → IsLent old work → HasReturned old new work → Keeps old new
+pub returned_keeps : (old new : Inside) (work : Work) → IsLentFlight old work → HasReturned old new work → Keeps old new
 returned_keeps old new work lent returned = record {
   rest = returned.rest;
   count = ap (λ (s : Future). length s.flights) (returned.flight lent.flight lent.there lent.away) ∙ replaced_count _ _ old.flights.future.flights;

@@ -2,7 +2,7 @@
 use Rattle.std.proofs.Common.{◌≡◌, ◌∙◌, ◌+◌, ◌-◌, ◌<◌, ◌≤◌, ◌++◌, ◌∷◌, ◌==◌, ◌&&◌, [], ℕ, zero, suc, Bool, true, false, cond, List, Option, Some, None, length, length-append, min, append_assoc, refl, sym, ap, subst, arith}
 use Rattle.std.specs.Prelude.{if◌then◌else◌}
 use Rattle.std.specs.BTreeMap.{is_at}
-use Rattle.std.specs.List.{filter_map, list_any, sum_by}
+use Rattle.std.specs.List.{list_any, sum_by}
 use Rattle.std.specs.Map.{lookup}
 use Rattle.std.specs.Option.{option_and_then, option_map_or}
 use Rattle.std.specs.Ordering.{nat_cmp}
@@ -16,7 +16,7 @@ use Rattle.seq_model.specs.Histories.{History}
 use Rattle.seq_model.specs.Life.{loan_count}
 use Rattle.seq_model.specs.Refusals.{is_array_loan_out, is_array_out, is_channel_out, is_parameter_loan_out, is_parameter_out}
 use Rattle.seq_model.specs.Room.{loans_out, need}
-use Rattle.seq_model.specs.State.{ArrayState, Object, ParameterLoan, State, object_at}
+use Rattle.seq_model.specs.State.{ArrayState, Object, State, object_at}
 use Rattle.seq_model.specs.Steps.{after}
 use Rattle.seq_model.specs.Told.{status_at, told, told_by}
 use Rattle.seq_model.specs.declared.calls.Call.{Call}
@@ -78,6 +78,7 @@ array_counted o number len out = by o.array refl out
         let one : ones (option_and_then (λ (a : ArrayState). a.loan) o.array) ≡ suc zero =
         ap (λ (x : Option ArrayState). ones (option_and_then (λ (a : ArrayState). a.loan) x)) array ∙ ap ones some in
         omega (arith, one)
+
     by : (x : Option ArrayState) → o.array ≡ x → option_map_or (is_array_out number len) x false ≡ true → 1 ≤ loan_count o
     by None none out = absurd cc
     by (Some a) some out = loaned a some a.loan refl out

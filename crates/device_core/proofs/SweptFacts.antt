@@ -1,14 +1,12 @@
 -- What a sweep leaves of a device.
-use Rattle.std.proofs.Common.{◌≡◌, ◌∙◌, ◌++◌, ◌+◌, ◌<◌, ◌≤◌, length, length-append, ap, arith, subst}
+use Rattle.std.proofs.Common.{◌≡◌, ◌∙◌, ◌≤◌, length, length-append, ap, arith, subst}
 use Rattle.flight_books.specs.Sweeps.{notes_of}
 use Rattle.frame_future.specs.Reads.{ended_by}
-use Rattle.object_steps.specs.Resting.{IsAtRest}
 use Rattle.seq_model.specs.Legal.{Legal}
 use Rattle.seq_model.specs.Room.{loans_out}
 use Rattle.seq_model.specs.Steps.{after}
 use Rattle.device_parts.specs.AllParts.{AreParts, Inside}
 use Rattle.device_parts.specs.Sweeps.{HasSwept}
-use Rattle.device_core.specs.States.{owed}
 use Rattle.device_core.proofs.LoanFacts.{notes_keep_loans}
 
 -- as many loans are out

@@ -2,10 +2,8 @@
 use Rattle.std.specs.Prelude.{◌≡◌, ℕ, true}
 use Rattle.std.specs.Option.{MatchOption}
 use Rattle.std.specs.List.{slice_get}
-use Rattle.dev_types.specs.declared.notices.Notice.{Notice}
 use Rattle.flight_books.specs.Stops.{StopsAll}
 use Rattle.frame_future.specs.Flights.{awaited}
-use Rattle.frame_future.specs.declared.phase.Ended.{Ended}
 use Rattle.device_core.specs.States.{Device}
 use Rattle.device_core.specs.Sweeping.{Sweeps}
 

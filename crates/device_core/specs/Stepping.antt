@@ -1,5 +1,5 @@
 -- What a call of the application does to a device.
-use Rattle.std.specs.Prelude.{◌≡◌, ◌≤◌, ℕ, ◌+◌, Bool, false, true, Some, length, if◌then◌else◌}
+use Rattle.std.specs.Prelude.{◌≡◌, ◌≤◌, ℕ, ◌+◌, false, true, Some, length, if◌then◌else◌}
 use Rattle.std.specs.Option.{option_map}
 use Rattle.dev_types.specs.declared.refusals.Refused.{Refused}
 use Rattle.dev_types.specs.declared.refusals.Refused.TheVariants.{JournalFull, NoMemory}

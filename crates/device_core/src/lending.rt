@@ -5,7 +5,7 @@ ghost use Rattle.frame_future.specs.Future.{AreHome, flight_of};
 ghost use Rattle.seq_model.specs.Refusals.{phase_at};
 ghost use Rattle.seq_model.specs.State.{ticket_in};
 ghost use Rattle.seq_model.specs.Steps.{after};
-ghost use Rattle.device_parts.specs.Lends.{HasLent, HasReturned, IsLent};
+ghost use Rattle.device_parts.specs.Lends.{HasLentFlight, HasReturned, IsLentFlight};
 
 use crate::states::DeviceState;
 use dev_types::{Client, Handle};
@@ -19,7 +19,7 @@ impl<C: Client> DeviceState<C> {
     pub fn lend_flight(&mut self, h: Handle) -> Option<Work>
         requires home { AreHome self.old.parts.flights.future }
         requires going { self.old.ending ≡ false }
-        ensures lent { IfSome result (HasLent h self.old.parts self.new.parts) }
+        ensures lent { IfSome result (HasLentFlight h self.old.parts self.new.parts) }
         ensures none { IfNone result (flight_of self.old.parts.flights.future h ≡ None) }
         ensures exactly { is_some result
             ≡ is_some (ticket_in (phase_at (after self.old.parts.history) h)) }
@@ -34,7 +34,7 @@ impl<C: Client> DeviceState<C> {
     /// lending the seat has split off no seat, has not stopped and has collected nothing. Takes no
     /// memory.
     pub fn return_flight(&mut self, work: Work)
-        requires { IsLent self.old.parts work }
+        requires { IsLentFlight self.old.parts work }
         ensures returned { HasReturned self.old.parts self.new.parts work }
         ensures home { AreHome self.new.parts.flights.future }
         ensures rest { self.new ≡ record self.old { parts = self.new.parts } }

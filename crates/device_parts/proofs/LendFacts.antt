@@ -33,7 +33,7 @@ use Rattle.device_laws.proofs.StandingFacts.{found, phases_agree}
 use Rattle.device_laws.specs.SameFrames.{SameFrames}
 use Rattle.device_laws.specs.Standing.{phase_as}
 use Rattle.device_parts.specs.AllParts.{AreParts, Inside, IsLoaded, scene_at_home, scene_of_load, scene_prepared}
-use Rattle.device_parts.specs.Lends.{HasLent, HasReturned, IsLent, is_lent}
+use Rattle.device_parts.specs.Lends.{HasLentFlight, HasReturned, IsLentFlight, is_lent}
 use Rattle.device_parts.specs.Standing.{IsStanding}
 use Rattle.device_parts.specs.declared.loads.Load.{Load}
 use Rattle.device_parts.specs.declared.loads.PreparedScene.{PreparedScene}
@@ -179,7 +179,7 @@ module _ (old : Inside) (h t : ℕ) (p : AreParts old) (books : AreBooks old.fli
       no_less n = omega arith
 
   pub has_lent : (claims : Claims) (seat : Seat) (work : Work) → IfSome (flight_at old.flights.future t) (λ f. IsOfFlight f claims seat × (view seat ≡ f.view)) → work.claims ≡ claims → work.seat ≡ seat
-      → scene_of_work work ≡ scene_prepared s → HasLent h old (record old { flights = new }) work
+      → scene_of_work work ≡ scene_prepared s → HasLentFlight h old (record old { flights = new }) work
   has_lent claims seat work held claims_are seat_is shows =
       let f : Flying = x.flight in
       let mine : IsOfFlight f claims seat × (view seat ≡ f.view) = subst (λ o. IfSome o (λ (f : Flying). IsOfFlight f claims seat × (view seat ≡ f.view))) x.there held in
@@ -224,7 +224,7 @@ only_lent f g b (x ∷ fs) is other away_ all = by (has_ticket f.ticket x) refl 
     by false miss false other_miss all_ deeper = deeper (later f.ticket f is miss) (later g.ticket g other other_miss) away_ all_.1
 
 -- the flight that is lent, by the first load without a scene
-module _ (old : Inside) (p : AreParts old) (books : AreBooks old.flights) (work : Work) (r : IsLent old work) where
+module _ (old : Inside) (p : AreParts old) (books : AreBooks old.flights) (work : Work) (r : IsLentFlight old work) where
   all_home : AllByRecursion (λ (g : Flying). g.home ≡ true) (replaced (has_ticket r.flight.ticket) (back work.seat r.flight) old.flights.future.flights)
   all_home = recursion_from_All (λ (g : Flying). g.home ≡ true) (replaced (has_ticket r.flight.ticket) (back work.seat r.flight) old.flights.future.flights) r.others
 

@@ -19,7 +19,7 @@ is_lent c = is_none c.kept.scene
 
 -- The flight of frame h was lent: this is its work, its own claims with their first seat as it was, and
 -- the scene of its render, within the limits of pictures. All else stayed
-pub record HasLent (h : ℕ) (old new : Inside) (work : Work) : Type 0 where
+pub record HasLentFlight (h : ℕ) (old new : Inside) (work : Work) : Type 0 where
   pub flight : Flying
   pub there : flight_of old.flights.future h ≡ Some flight
   pub claims : IsOfFlight flight work.claims work.seat
@@ -33,7 +33,7 @@ pub record HasLent (h : ℕ) (old new : Inside) (work : Work) : Type 0 where
 
 -- This is the work of the one flight that is lent: its claims, its scene, and its first seat, at which
 -- no tile is open, and which has split off no seat, has not stopped and has collected nothing since
-pub record IsLent (i : Inside) (work : Work) : Type 0 where
+pub record IsLentFlight (i : Inside) (work : Work) : Type 0 where
   pub flight : Flying
   pub there : flight_at i.flights.future flight.ticket ≡ Some flight
   pub away : flight.home ≡ false

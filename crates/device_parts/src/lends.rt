@@ -7,7 +7,7 @@ ghost use Rattle.frame_future.specs.Future.{AreHome, flight_of};
 ghost use Rattle.seq_model.specs.Refusals.{phase_at};
 ghost use Rattle.seq_model.specs.State.{ticket_in};
 ghost use Rattle.seq_model.specs.Steps.{after};
-ghost use Rattle.device_parts.specs.Lends.{HasLent, HasReturned, IsLent, is_lent};
+ghost use Rattle.device_parts.specs.Lends.{HasLentFlight, HasReturned, IsLentFlight, is_lent};
 ghost use Rattle.device_parts.specs.Standing.{IsStanding};
 
 use crate::loads::{Load, PreparedScene};
@@ -24,7 +24,7 @@ impl Parts {
     /// memory.
     pub fn lend_flight(&mut self, h: Handle) -> Option<Work>
         requires home { AreHome self.old.flights.future }
-        ensures lent { IfSome result (HasLent h self.old self.new) }
+        ensures lent { IfSome result (HasLentFlight h self.old self.new) }
         ensures none { IfNone result (flight_of self.old.flights.future h ≡ None) }
         ensures same { IfNone result (self.new ≡ self.old) }
         ensures exactly { IsStanding self.old → is_some result
@@ -44,7 +44,7 @@ impl Parts {
     /// lending the seat has split off no seat, has not stopped and has collected nothing. Takes no
     /// memory.
     pub fn return_flight(&mut self, work: Work)
-        requires { IsLent self.old work }
+        requires { IsLentFlight self.old work }
         ensures returned { HasReturned self.old self.new work }
         ensures home { AreHome self.new.flights.future }
         ensures stands { IsStanding self.old → IsStanding self.new }

@@ -1,4 +1,4 @@
-use Rattle.std.proofs.Common.{◌≡◌, ◌∙◌, ◌++◌, ap, sym}
+use Rattle.std.proofs.Common.{◌∙◌, ◌++◌, ap, sym}
 use Rattle.std.specs.Option.{unwrap_or}
 use Rattle.seq_model.specs.Told.{status_at}
 use Rattle.seq_model.specs.declared.calls.Entry.{Entry}

@@ -1,4 +1,4 @@
-use Rattle.std.proofs.Common.{◌≡◌, ◌∙◌, ◌+◌, ◌-◌, ◌<◌, ◌≤◌, ◌++◌, ◌∷◌, [], ℕ, List, length, arith, ap, refl, subst, sym}
+use Rattle.std.proofs.Common.{◌≡◌, ◌∙◌, ◌+◌, ◌-◌, ◌<◌, ◌≤◌, ◌++◌, ◌∷◌, [], List, length, arith, ap, refl, subst, sym}
 use Rattle.std.specs.List.{filter_map}
 use Rattle.dev_types.specs.declared.notices.Notice.{Notice}
 use Rattle.object_store.specs.Ends.{notice_of}
@@ -42,25 +42,26 @@ invariant_of-self-in-Ok-make g c =
     let once = one_notice c.args.actor k r in
     let limit : 0 < c.self.inside.limit = (let some = is.within in omega (arith, some)) in
     let legal : Legal (old.history ++ e ∷ []) = subst Legal has.grown c.are_parts-in-Ok-make.ensures.rest.legal in
-    let moved = moves old.history e legal (λ closed. absurd cc) in
-    (record {
-      all_told = ap (λ (i : Inside). i.objects.dead) c.tell.ensures.none;
-      spare = subst (λ n. n ≤ g.C.Client.spare c.tell.new.client) (sym tells)
-          (spare_after (tellable old.objects.stored.state) (tellable mid.objects.stored.state) (untold mid.objects) (length (status_at e)) (one_if (takes_memory k r))
-          (g.C.Client.spare c.reserve_notices.new.client) (g.C.Client.spare c.tell_last.new.client) (g.C.Client.spare c.tell.new.client)
-          once c.in-Ok.ensures.room (c.tell_last.ensures.used old.history e has.grown) c.tell.ensures.room has.fewer);
-      counted = subst (λ n. n ≤ length c.tell.new.self.history) (sym tells)
-          (counted_after (tellable old.objects.stored.state) (tellable mid.objects.stored.state) (untold mid.objects) (length (status_at e)) (one_if (takes_memory k r))
-          (length old.history) (length c.tell.new.self.history) is.counted once has.fewer (entries ∙ one));
-      within = within_after c.self.inside.limit (length old.history) (length old.flights.future.flights) (loans_out (after old.history).state)
-          (need (after old.history).state c.args.call) (begun_by c.args.call r) (length c.tell.new.self.history) (length c.tell.new.self.flights.future.flights)
-          limit (c.if-is_full.ensures.owed refl) (covers (after old.history).state c.args.call r) (entries ∙ one) (flights ∙ c.in-Ok-make.ensures.flights);
-      limit = is.limit;
-      stands = λ going. subst IsStanding (sym c.tell.ensures.none) (stands_told mid c.in-Ok-make.ensures.stands);
-    },
-    loans_are c.self.inside.loans (loans_out (after old.history).state) (loans_out (after c.tell.new.self.history).state) (lends e) (takes_back e) c.loans_after-self-inside.result
-    (c.loans_after-self-inside.ensures old.history e has.grown) c.self.invariant.1
-    (ap (λ (i : Inside). loans_out (after i.history).state + takes_back e) c.tell.ensures.none ∙ ap (λ h. loans_out (after h).state + takes_back e) has.grown ∙ moved))
+    let moved = moves old.history e legal (λ closed. absurd cc) in (
+      record {
+        all_told = ap (λ (i : Inside). i.objects.dead) c.tell.ensures.none;
+        spare = subst (λ n. n ≤ g.C.Client.spare c.tell.new.client) (sym tells)
+            (spare_after (tellable old.objects.stored.state) (tellable mid.objects.stored.state) (untold mid.objects) (length (status_at e)) (one_if (takes_memory k r))
+            (g.C.Client.spare c.reserve_notices.new.client) (g.C.Client.spare c.tell_last.new.client) (g.C.Client.spare c.tell.new.client)
+            once c.in-Ok.ensures.room (c.tell_last.ensures.used old.history e has.grown) c.tell.ensures.room has.fewer);
+        counted = subst (λ n. n ≤ length c.tell.new.self.history) (sym tells)
+            (counted_after (tellable old.objects.stored.state) (tellable mid.objects.stored.state) (untold mid.objects) (length (status_at e)) (one_if (takes_memory k r))
+            (length old.history) (length c.tell.new.self.history) is.counted once has.fewer (entries ∙ one));
+        within = within_after c.self.inside.limit (length old.history) (length old.flights.future.flights) (loans_out (after old.history).state)
+            (need (after old.history).state c.args.call) (begun_by c.args.call r) (length c.tell.new.self.history) (length c.tell.new.self.flights.future.flights)
+            limit (c.if-is_full.ensures.owed refl) (covers (after old.history).state c.args.call r) (entries ∙ one) (flights ∙ c.in-Ok-make.ensures.flights);
+        limit = is.limit;
+        stands = λ going. subst IsStanding (sym c.tell.ensures.none) (stands_told mid c.in-Ok-make.ensures.stands);
+      },
+      loans_are c.self.inside.loans (loans_out (after old.history).state) (loans_out (after c.tell.new.self.history).state) (lends e) (takes_back e) c.loans_after-self-inside.result
+          (c.loans_after-self-inside.ensures old.history e has.grown) c.self.invariant.1
+          (ap (λ (i : Inside). loans_out (after i.history).state + takes_back e) c.tell.ensures.none ∙ ap (λ h. loans_out (after h).state + takes_back e) has.grown ∙ moved),
+    )
 
 pub returns-in-Ok-make-clause-made : goal.returns-in-Ok-make-clause-made
 returns-in-Ok-make-clause-made g c =
@@ -82,11 +83,11 @@ returns-in-Ok-make-clause-made g c =
     subst (λ (i : Inside). old.room + begun_by c.args.call r ≤ i.room) (sym c.tell.ensures.none) c.in-Ok-make.ensures.room in
     let once = one_notice c.args.actor k r in
     let notices = subst (λ n. g.C.Client.spare c.self.inside.client - tellable old.objects.stored.state ≤ g.C.Client.spare c.tell.new.client - n + 1) (sym tells)
-        (notices_less (g.C.Client.spare c.self.inside.client) (tellable old.objects.stored.state) (tellable mid.objects.stored.state) (untold mid.objects) (length (status_at e))
-        (one_if (takes_memory k r)) (g.C.Client.spare c.reserve_notices.new.client) (g.C.Client.spare c.tell_last.new.client) (g.C.Client.spare c.tell.new.client)
-        c.in-Ok.ensures.no_less once (c.tell_last.ensures.used old.history e has.grown) c.tell.ensures.room has.fewer) in
+    (notices_less (g.C.Client.spare c.self.inside.client) (tellable old.objects.stored.state) (tellable mid.objects.stored.state) (untold mid.objects) (length (status_at e))
+    (one_if (takes_memory k r)) (g.C.Client.spare c.reserve_notices.new.client) (g.C.Client.spare c.tell_last.new.client) (g.C.Client.spare c.tell.new.client)
+    c.in-Ok.ensures.no_less once (c.tell_last.ensures.used old.history e has.grown) c.tell.ensures.room has.fewer) in
     let places = places_less old.room (length old.history) (length old.flights.future.flights) (begun_by c.args.call r) (length c.tell.new.self.history)
-        (length c.tell.new.self.flights.future.flights) c.tell.new.self.room entries flights room in
+    (length c.tell.new.self.flights.future.flights) c.tell.new.self.room entries flights room in
     subst (λ (before : Device). HasMade c.args.actor c.args.call c.args.with r c.in-Ok-make.made.1 before now) c.self.view_is
     (record {
       place = sym c.if-is_full.ensures.full;

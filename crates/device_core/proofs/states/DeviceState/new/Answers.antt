@@ -28,12 +28,14 @@ invariant_of-result g c =
     let i = c.in-Ok.parts in
     let owed_none = none_owed i c.in-Ok.ensures.history c.in-Ok.ensures.flights in
     let told_none = none_tellable i c.are_parts.ensures c.in-Ok.ensures.history in
-    let some = c.requires.some in
-    (record {
-      all_told = c.in-Ok.ensures.objects;
-      spare = omega (arith, told_none);
-      counted = omega (arith, told_none);
-      within = omega (arith, owed_none, some);
-      limit = c.requires.few;
-      stands = λ going. c.in-Ok.ensures.stands;
-    }, sym (none_lent i c.in-Ok.ensures.history))
+    let some = c.requires.some in (
+      record {
+        all_told = c.in-Ok.ensures.objects;
+        spare = omega (arith, told_none);
+        counted = omega (arith, told_none);
+        within = omega (arith, owed_none, some);
+        limit = c.requires.few;
+        stands = λ going. c.in-Ok.ensures.stands;
+      },
+      sym (none_lent i c.in-Ok.ensures.history),
+    )

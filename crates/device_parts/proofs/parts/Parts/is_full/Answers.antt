@@ -35,5 +35,5 @@ returns-clause-owed c = λ not_full.
     let entries : length (after i.history).seen ≡ length i.history = ap length (seen_is_history i.history) in
     let flown = flight_count i.history i.flights.future c.are_parts.ensures.flown kept in
     let owed = owes c.args.limit (length (after i.history).seen) (length (flights (after i.history).state)) (loans_out (after i.history).state)
-        (need (after i.history).state c.args.call.now) (sym (returns-clause-full c) ∙ not_full) in
+    (need (after i.history).state c.args.call.now) (sym (returns-clause-full c) ∙ not_full) in
     omega (arith, owed, entries, flown)

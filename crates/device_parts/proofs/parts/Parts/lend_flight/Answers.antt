@@ -6,7 +6,7 @@ use Rattle.seq_model.specs.Refusals.{phase_at}
 use Rattle.seq_model.specs.State.{ticket_in}
 use Rattle.seq_model.specs.Steps.{after}
 use Rattle.device_parts.specs.AllParts.{Inside}
-use Rattle.device_parts.specs.Lends.{HasLent}
+use Rattle.device_parts.specs.Lends.{HasLentFlight}
 use Rattle.device_parts.specs.Standing.{IsStanding}
 use Rattle.device_parts.proofs.LendFacts.{IsLoanable, flies_by, has_lent, lent_parts, lent_stands, loanable, may_take, not_flying}
 use Rattle.device_parts.proofs.parts.Parts.lend_flight.Goals as goal
@@ -55,7 +55,7 @@ returns-clause-lent c =
     let x : IsLoanable old c.args.h c.in-Flight.ticket =
     loanable old c.frames-frames.result.now c.args.h c.in-Flight.ticket c.self.invariant c.frames-frames.ensures.books (subst (λ (i : Inside). AreHome i.flights.future) (sym c.self.view_is) c.requires.home)
     c.frames-frames.ensures.value c.phase_of.ensures.kept (sym c.phase_of.ensures.value ∙ c.in-Flight.is) in
-    subst (λ (before : Inside). HasLent c.args.h before (record { objects = c.self.inside.objects; flights = c.take_scene-scene.new.flights; worlds = c.self.inside.worlds; history = c.self.inside.journal.items; room = c.self.inside.journal.room; builds = c.self.inside.builds }) c.into_work.result) c.self.view_is
+    subst (λ (before : Inside). HasLentFlight c.args.h before (record { objects = c.self.inside.objects; flights = c.take_scene-scene.new.flights; worlds = c.self.inside.worlds; history = c.self.inside.journal.items; room = c.self.inside.journal.room; builds = c.self.inside.builds }) c.into_work.result) c.self.view_is
     (has_lent old c.args.h c.in-Flight.ticket c.self.invariant c.frames-frames.ensures.books x c.lend-claims.new.self c.take_scene-scene.new.flights c.take_scene-scene.result c.lend-claims.ensures.lent c.take_scene-scene.ensures
     c.lend-claims.result.0 c.lend-claims.result.1 c.into_work.result c.lend-claims.ensures.held c.into_work.ensures.claims c.into_work.ensures.seat c.into_work.ensures.scene)
 
