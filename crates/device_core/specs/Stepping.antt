@@ -16,7 +16,7 @@ use Rattle.device_parts.specs.AllParts.{Inside}
 use Rattle.device_parts.specs.Calls.{HasEntered, HasPlaceToStop, HasRoomMade}
 use Rattle.device_parts.specs.Deaths.{all_told}
 use Rattle.device_parts.specs.Looks.{AreShort}
-use Rattle.device_parts.specs.Makes.{IsMoved, LeavesFrame, array_of, frame_of, told_as}
+use Rattle.device_parts.specs.Makes.{IsMoved, LeavesFrame, LendsChannel, array_of, frame_of, told_as}
 use Rattle.device_parts.specs.Uses.{NothingGoneIsUsed}
 use Rattle.device_parts.specs.Waits.{is_waited_for}
 use Rattle.device_parts.specs.declared.handed.Handed.{Handed}
@@ -42,6 +42,7 @@ pub record HasMade (actor : ℕ) (call : Call) (with : Handed) (r : Reply) (out 
   pub array : array_of out
       ≡ handed (length old.parts.history + 1) (entered (after old.parts.history) call) r (after old.parts.history).state (array_of with)
   pub frame : LeavesFrame call r (frame_of with) (frame_of out)
+  pub lends : LendsChannel (length old.parts.history + 1) (entered (after old.parts.history) call) r (frame_of out)
   pub parts : new.parts ≡ all_told made
   pub told : TellsOn old new
   pub spare : spare_calls old ≤ spare_calls new + 1

@@ -62,6 +62,21 @@ impl<C: Client> DeviceState<C> {
         }
     }
 
+    /// The client of a device that is given up without a close: it is told nothing more.
+    pub fn into_client(self) -> C
+        ensures notices { C.notices result ≡ self.told }
+        ensures spare { C.spare result ≡ self.spare }
+    {
+        let DeviceState {
+            parts: _,
+            client,
+            limit: _,
+            loans: _,
+            ending: _,
+        } = self;
+        client
+    }
+
     /// Sweeps, stops each flight, and sweeps again.
     fn halt(&mut self)
         requires home { AreHome self.old.parts.flights.future }

@@ -1,9 +1,14 @@
 -- What goes with calls of all kinds and comes back of them.
-use Rattle.std.proofs.Common.{◌≡◌, ◌∙◌, ℕ, Bool, false, true, Option, None, Some, ap, refl, subst, sym, if◌then◌else◌}
+use Rattle.std.proofs.Common.{◌≡◌, ◌∙◌, ◌+◌, ◌∷◌, ℕ, Bool, false, true, List, [], length, Option, None, Some, ap, refl, subst, sym, if◌then◌else◌}
+use Rattle.std.specs.List.{AllByRecursion}
 use Rattle.std.specs.Option.{option_map}
+use Rattle.std.proofs.lemmas.Bool.{eqb-true}
 use Rattle.answered_calls.specs.Tells.{with_given}
 use Rattle.dev_types.specs.declared.handles.Channel.{Channel}
-use Rattle.frame_future.specs.Future.{Future}
+use Rattle.dev_types.specs.declared.refusals.Refused.{Refused}
+use Rattle.dev_types.specs.declared.refusals.Refused.TheVariants.{InFlight}
+use Rattle.device_laws.proofs.StandingFacts.{found}
+use Rattle.frame_future.specs.Future.{Finished, Future, is_picture_of}
 use Rattle.frame_future.specs.Mapped.{Mapped}
 use Rattle.object_steps.specs.Applying.{tells_of_flights}
 use Rattle.object_steps.specs.Carrying.{Brings, handed}
@@ -19,9 +24,11 @@ use Rattle.seq_model.specs.declared.calls.Call.TheVariants.{FrameReady, MapArray
 use Rattle.seq_model.specs.declared.calls.Reply.{Reply}
 use Rattle.seq_model.specs.declared.calls.Reply.TheVariants as reply
 use Rattle.device_parts.specs.AllParts.{Inside}
+use Rattle.device_parts.specs.Asks.{HasMappedOrStayed}
 use Rattle.device_parts.specs.Calls.{AreMoved, move_of}
 use Rattle.device_parts.specs.Looks.{given_of}
-use Rattle.device_parts.specs.Makes.{BringsFrame, Hands, IsMoved, LeavesFrame, array_of, frame_left, frame_of, joined, told_as}
+use Rattle.device_parts.specs.Maps.{TellsLoan, is_refused}
+use Rattle.device_parts.specs.Makes.{BringsFrame, Hands, IsMoved, LeavesFrame, LendsChannel, array_of, frame_left, frame_of, joined, told_as}
 use Rattle.device_parts.specs.declared.handed.Handed.{Handed}
 use Rattle.device_parts.specs.declared.handed.Handed.TheVariants as handed
 
@@ -147,3 +154,26 @@ is_quiet (RenderFrame h) renders asks maps = absurd (renders h refl)
 is_quiet (FrameReady h wait) renders asks maps = absurd (asks h wait refl)
 is_quiet (MapFrame h channel) renders asks maps = absurd (maps h channel refl)
 is_quiet call renders asks maps = refl
+
+any_of : (ps : List Finished) → AllByRecursion (λ p. Unit {0}) ps
+any_of [] = tt
+any_of (p ∷ ps) = (tt, any_of ps)
+
+-- what a map lends is of the frame and the channel that were asked for
+pub lends_channel : (h : ℕ) (channel : Channel) (out : Option Mapped) (r : Reply) (old new : Inside) → HasMappedOrStayed h channel out old new → TellsLoan out r
+    → LendsChannel (length old.history + 1) (MapFrame h channel) r out
+lends_channel h channel None r old new moved tells = tells
+lends_channel h channel (Some loan) r old new moved tells =
+    let is = moved.lent.loan_is in
+    let frame : moved.lent.picture.frame ≡ h = eqb-true moved.lent.picture.frame h
+    (found (λ p. Unit {0}) (is_picture_of h) old.flights.future.pictures moved.lent.picture (any_of old.flights.future.pictures) moved.lent.shown).1 in
+    (tells, ap (λ (m : Mapped). m.frame) is ∙ frame, ap (λ (m : Mapped). m.channel) is, ap (λ (m : Mapped). m.number) is)
+
+pub lends_none : (place : ℕ) (call : Call) (r : Reply) (out : Option Mapped) → tells_of_flights call ≡ false → LendsChannel place call r out
+lends_none place (MapFrame h channel) r out quiet = absurd cc
+lends_none place call r out quiet = tt
+
+-- a refusal stays one, whatever is told with it
+pub still_refused : (given : ℕ) (refused : Refused) → is_refused (with_given given (reply.Denied refused)) ≡ true
+still_refused given (InFlight read of) = refl
+still_refused given refused = refl

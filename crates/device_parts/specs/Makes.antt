@@ -1,5 +1,5 @@
 -- What goes with a call of any kind and comes back of it, and what the call does.
-use Rattle.std.specs.Prelude.{◌≡◌, ℕ, Option, Some, None, if◌then◌else◌}
+use Rattle.std.specs.Prelude.{◌≡◌, ℕ, true, Option, Some, None, if◌then◌else◌}
 use Rattle.answered_calls.specs.Tells.{with_given}
 use Rattle.frame_future.specs.Future.{Future}
 use Rattle.frame_future.specs.Mapped.{Mapped}
@@ -16,6 +16,7 @@ use Rattle.device_parts.specs.AllParts.{Inside}
 use Rattle.device_parts.specs.Asks.{HasMappedOrStayed, HasRendered}
 use Rattle.device_parts.specs.Calls.{AreMoved, move_of}
 use Rattle.device_parts.specs.Looks.{given_of}
+use Rattle.device_parts.specs.Maps.{is_refused, told_of}
 use Rattle.device_parts.specs.declared.handed.Handed.{Handed}
 use Rattle.device_parts.specs.declared.handed.Handed.TheVariants as handed
 
@@ -67,6 +68,14 @@ abbrev pub IsMoved : Call → Reply → Option Mapped → Inside → Inside → 
 IsMoved (RenderFrame frame) r out old new = HasRendered frame r old new
 IsMoved (MapFrame h channel) r out old new = HasMappedOrStayed h channel out old new
 IsMoved call r out old new = AreMoved (move_of call r) old new
+
+-- What a map of a channel hands out under a place: the loan of that frame and channel, of which the reply
+-- tells; or nothing, where it is refused. No other call lends a channel
+abbrev pub LendsChannel : ℕ → Call → Reply → Option Mapped → Type 0
+LendsChannel place (MapFrame h channel) r (Some loan) =
+    (r ≡ told_of loan) × (loan.frame ≡ h) × (loan.channel ≡ channel) × (loan.number ≡ place)
+LendsChannel place (MapFrame h channel) r None = is_refused r ≡ true
+LendsChannel place call r out = Unit {0}
 
 -- how many flights a call begins by its reply
 abbrev pub begun_by : Call → Reply → ℕ

@@ -1,5 +1,5 @@
 -- What a map of a frame's channel tells, and what it does to the flights and pictures.
-use Rattle.std.specs.Prelude.{◌≡◌, ℕ, ◌+◌, length, Some}
+use Rattle.std.specs.Prelude.{◌≡◌, ℕ, ◌+◌, Bool, true, false, length, Option, Some, None}
 use Rattle.dev_types.specs.declared.handles.Channel.{Channel}
 use Rattle.flight_books.specs.Kept.{Books, with_future}
 use Rattle.frame_future.specs.Future.{Finished, lent_as, loan_from, shown_by, with_picture}
@@ -14,6 +14,16 @@ use Rattle.device_parts.specs.declared.loads.Load.{Load}
 -- the reply that tells of a mapped channel
 abbrev pub told_of : Mapped → Reply
 told_of m = reply.Mapped m.width m.height (type_of_channel m.channel) m.bytes
+
+-- the reply refuses the call
+abbrev pub is_refused : Reply → Bool
+is_refused (reply.Denied refused) = true
+is_refused r = false
+
+-- the reply tells of what is lent; where nothing is, it refuses the map
+abbrev pub TellsLoan : Option Mapped → Reply → Type 0
+TellsLoan (Some loan) r = r ≡ told_of loan
+TellsLoan None r = is_refused r ≡ true
 
 -- a channel of the frame's picture was lent under a number, and this is what is lent of it
 pub record HasLent (h : ℕ) (channel : Channel) (number : ℕ) (loan : Mapped) (old new : Books Load) : Type 0 where

@@ -14,6 +14,7 @@ ghost use Rattle.device_laws.specs.FramesStand.{without_pictures};
 ghost use Rattle.device_parts.specs.Asks.{HasMappedOrStayed, HasRendered};
 ghost use Rattle.device_parts.specs.Calls.{HasEntered, HasRoomMade};
 ghost use Rattle.device_parts.specs.Looks.{AreShort, given_of};
+ghost use Rattle.device_parts.specs.Maps.{TellsLoan};
 ghost use Rattle.device_parts.specs.Standing.{IsStanding};
 
 use crate::parts::Parts;
@@ -142,6 +143,7 @@ impl Parts {
             (with_given (given_of self.old.flights.future h))
             (answer (after self.old.history) (MapFrame h channel)) ≡ Some r.0) }
         ensures frames { IfOk result (λ r. HasMappedOrStayed h channel r.1 self.old self.new) }
+        ensures loan { IfOk result (λ r. TellsLoan r.1 r.0) }
         ensures stands { IsStanding self.new }
         ensures home { AreHome self.new.flights.future }
         ensures err { OnErr result (HasRoomMade self.old self.new) }

@@ -20,6 +20,14 @@ pub enum Handed {
     Frame(MappedFrame),
 }
 
+impl Handed {
+    /// Gives the loan up, if there is one.
+    pub fn give_up(self) {
+        let (array, _channel) = parted(self);
+        array.give_up();
+    }
+}
+
 /// The loan of an array that goes along, and that of a channel.
 pub(crate) fn parted(with: Handed) -> (ArrayLoan, Option<MappedFrame>)
     ensures array { result.0 ≡ array_of with }

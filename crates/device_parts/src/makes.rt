@@ -10,7 +10,7 @@ ghost use Rattle.seq_model.specs.Contents.{entered};
 ghost use Rattle.seq_model.specs.Steps.{after};
 ghost use Rattle.device_parts.specs.Calls.{AreMoved, HasEntered, HasPlaceToStop, HasRoomMade, move_of};
 ghost use Rattle.device_parts.specs.Looks.{AreShort};
-ghost use Rattle.device_parts.specs.Makes.{Hands, IsMoved, LeavesFrame, array_of, begun_by, frame_left, frame_of, told_as};
+ghost use Rattle.device_parts.specs.Makes.{Hands, IsMoved, LeavesFrame, LendsChannel, array_of, begun_by, frame_left, frame_of, told_as};
 ghost use Rattle.device_parts.specs.Standing.{IsStanding};
 
 use crate::handed::{Handed, frame_left, joined, lent_out, parted};
@@ -51,6 +51,8 @@ impl Parts {
             (answer (after self.old.history) (entered (after self.old.history) call)) ≡ Some r.0) }
         ensures moved { IfOk result (λ r. IsMoved (entered (after self.old.history) call) r.0
             (frame_of r.1) self.old self.new) }
+        ensures lends { IfOk result (λ r. LendsChannel (length self.old.history + 1)
+            (entered (after self.old.history) call) r.0 (frame_of r.1)) }
         ensures flights { IfOk result (λ r. length self.new.flights.future.flights
             ≡ length self.old.flights.future.flights + begun_by call r.0) }
         ensures room { IfOk result (λ r. self.old.room + begun_by call r.0 ≤ self.new.room) }

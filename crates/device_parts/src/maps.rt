@@ -161,6 +161,7 @@ impl Parts {
         ensures answered { IfOk result
             (λ r. answer (after self.old.history) (MapFrame h channel) ≡ Some r.0) }
         ensures mapped { IfOk result (λ r. HasMapped h channel r.1 self.old self.new) }
+        ensures told { IfOk result (λ r. r.0 ≡ told_of r.1) }
         ensures stands { IsStanding self.new }
         ensures home { AreHome self.new.flights.future }
         ensures err { OnErr result (self.new ≡ self.old) }
@@ -212,6 +213,7 @@ impl Parts {
         ensures answered { IfOk result
             (λ r. answer (after self.old.history) (MapFrame h channel) ≡ Some r.0) }
         ensures mapped { IfOk result (λ r. HasMapped h channel r.1 self.old self.new) }
+        ensures told { IfOk result (λ r. r.0 ≡ told_of r.1) }
         ensures stands { IsStanding self.new }
         ensures home { AreHome self.new.flights.future }
         ensures err { OnErr result (HasRoomMade self.old self.new) }

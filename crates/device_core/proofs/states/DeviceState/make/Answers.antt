@@ -97,6 +97,7 @@ returns-in-Ok-make-clause-made g c =
       moved = c.in-Ok-make.ensures.moved;
       array = subst (λ s. array_of c.in-Ok-make.made.1 ≡ handed (length old.history + 1) k r s (array_of c.args.with)) c.are_parts.ensures.rest.state c.in-Ok-make.ensures.array;
       frame = c.in-Ok-make.ensures.frame;
+      lends = c.in-Ok-make.ensures.lends;
       parts = c.tell.ensures.none;
       told = λ before is.
           tells_on old.history e (g.C.Client.notices c.self.inside.client) (g.C.Client.notices c.tell_last.new.client) (g.C.Client.notices c.tell.new.client) ends

@@ -8,9 +8,9 @@ use Rattle.seq_model.specs.Steps.{after}
 use Rattle.seq_model.specs.declared.calls.Call.TheVariants.{FrameReady, MapFrame, RenderFrame}
 use Rattle.device_parts.specs.Asks.{HasMappedOrStayed}
 use Rattle.device_parts.specs.Calls.{HasEntered}
-use Rattle.device_parts.specs.Makes.{begun_by, IsMoved, frame_of}
+use Rattle.device_parts.specs.Makes.{begun_by, IsMoved, LendsChannel, frame_of}
 use Rattle.device_parts.proofs.CountFacts.{flights_made, no_less, room_plain, room_rendered}
-use Rattle.device_parts.proofs.MakeFacts.{answered_plain, array_left, entered_as, is_quiet, leaves_plain, moved_plain, none_goes, told_of_flight}
+use Rattle.device_parts.proofs.MakeFacts.{answered_plain, array_left, entered_as, is_quiet, leaves_plain, lends_channel, lends_none, moved_plain, none_goes, told_of_flight}
 use Rattle.device_parts.proofs.parts.Parts.make.Goals as goal
 
 pub ready-requires-clause-awake : goal.ready-requires-clause-awake
@@ -98,6 +98,8 @@ returns-in_default c =
       answered = IfOk-weaker c.make_plain.result _ _ (λ r is. answered_plain c.args.self.now.flights.future past c.args.call r.0 quiet is) c.make_plain.ensures.answered;
       moved = IfOk-weaker c.make_plain.result _ _
           (λ r is. moved_plain (entered past c.args.call) r.0 (frame_of r.1) c.args.self.now c.make_plain.new.self still is) c.make_plain.ensures.moved;
+      lends = IfOk-weaker c.make_plain.result _ _
+          (λ r is. lends_none (length c.args.self.now.history + 1) (entered past c.args.call) r.0 (frame_of r.1) still) c.make_plain.ensures.moved;
       flights = IfOk-weaker c.make_plain.result _ _
           (λ r is. flights_made past c.args.call r.0 (frame_of r.1) c.args.self.now c.make_plain.new.self
           (moved_plain (entered past c.args.call) r.0 (frame_of r.1) c.args.self.now c.make_plain.new.self still is)) c.make_plain.ensures.moved;
@@ -142,3 +144,25 @@ pub returns-in-Ok-map_or_refuse-clause-room : goal.returns-in-Ok-map_or_refuse-c
 returns-in-Ok-map_or_refuse-clause-room c =
     subst (λ k. c.args.self.now.room + begun_by k c.in-Ok-map_or_refuse.reply ≤ c.map_or_refuse.new.self.room) (sym c.in-MapFrame.is)
     (no_less c.args.self.now.room c.map_or_refuse.new.self.room c.in-Ok-map_or_refuse.ensures.entered.room)
+
+pub returns-in-Ok-clause-lends : goal.returns-in-Ok-clause-lends
+returns-in-Ok-clause-lends c =
+    let past = after c.args.self.now.history in
+    subst (λ k. LendsChannel (length c.args.self.now.history + 1) k c.in-Ok.reply (frame_of c.args.with))
+    (sym (entered_as past c.args.call (RenderFrame c.in-RenderFrame.h) c.in-RenderFrame.is refl)) tt
+
+pub returns-in-Ok-ready-clause-lends : goal.returns-in-Ok-ready-clause-lends
+returns-in-Ok-ready-clause-lends c =
+    let past = after c.args.self.now.history in
+    subst (λ k. LendsChannel (length c.args.self.now.history + 1) k c.in-Ok-ready.reply (frame_of c.args.with))
+    (sym (entered_as past c.args.call (FrameReady c.in-FrameReady.h c.in-FrameReady.wait) c.in-FrameReady.is refl)) tt
+
+pub returns-in-Ok-map_or_refuse-clause-lends : goal.returns-in-Ok-map_or_refuse-clause-lends
+returns-in-Ok-map_or_refuse-clause-lends c =
+    let past = after c.args.self.now.history in
+    let call = MapFrame c.in-MapFrame.h c.in-MapFrame.channel in
+    subst (λ k. LendsChannel (length c.args.self.now.history + 1) k c.in-Ok-map_or_refuse.reply (frame_of c.lent_out.result))
+    (sym (entered_as past c.args.call call c.in-MapFrame.is refl))
+    (subst (λ out. LendsChannel (length c.args.self.now.history + 1) call c.in-Ok-map_or_refuse.reply out) (sym c.lent_out.ensures.frame)
+    (lends_channel c.in-MapFrame.h c.in-MapFrame.channel c.in-Ok-map_or_refuse.loan c.in-Ok-map_or_refuse.reply c.args.self.now c.map_or_refuse.new.self
+    c.in-Ok-map_or_refuse.ensures.frames c.in-Ok-map_or_refuse.ensures.loan))

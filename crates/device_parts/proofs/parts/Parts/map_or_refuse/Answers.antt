@@ -1,4 +1,4 @@
-use Rattle.std.proofs.Common.{◌≡◌, ◌∙◌, ℕ, Option, None, Some, ap, refl, subst, sym}
+use Rattle.std.proofs.Common.{◌≡◌, ◌∙◌, ℕ, true, Option, None, Some, ap, refl, subst, sym}
 use Rattle.std.specs.Option.{option_map, option_or}
 use Rattle.answered_calls.specs.Tells.{with_given}
 use Rattle.seq_model.specs.Answers.{answer, granted, mapped_picture}
@@ -13,6 +13,8 @@ use Rattle.dev_types.specs.declared.handles.Channel.{Channel}
 use Rattle.kind_tables.specs.Ranges.{type_of_channel}
 use Rattle.dev_types.specs.declared.refusals.Refused.{Refused}
 use Rattle.device_parts.specs.Looks.{given_of}
+use Rattle.device_parts.specs.Maps.{is_refused}
+use Rattle.device_parts.proofs.MakeFacts.{still_refused}
 use Rattle.device_parts.proofs.parts.Parts.map_or_refuse.Goals as goal
 
 -- a map that is refused is denied
@@ -45,3 +47,7 @@ returns-in-Ok-clause-answered c =
     ap (option_map (with_given (given_of c.args.self.now.flights.future c.args.h)))
     (map_answer (after c.args.self.now.history) c.args.h c.args.channel (Some c.in-Some.refused) (sym c.in-Some.is ∙ c.refusal_of_map.ensures))
     ∙ ap Some (sym c.in-Ok.ensures.told)
+
+pub returns-in-Ok-clause-loan : goal.returns-in-Ok-clause-loan
+returns-in-Ok-clause-loan c =
+    subst (λ r. is_refused r ≡ true) (sym c.in-Ok.ensures.told) (still_refused (given_of c.args.self.now.flights.future c.args.h) c.in-Some.refused)

@@ -1,0 +1,54 @@
+-- A hold of the turn, as the pass tells it that made it.
+use Rattle.std.proofs.Common.{◌≡◌, ◌∙◌, ◌++◌, ◌∷◌, ◌+◌, [], ℕ, List, Result, Ok, Err, length, length-append, refl, sym, ap, subst, arith, append_assoc}
+use Rattle.std.specs.Prelude.{IfErr, IfOk, OnErr, Some}
+use Rattle.std.specs.Option.{option_map_or}
+use Rattle.std.proofs.lemmas.List.{append-nil}
+use Rattle.dev_types.specs.declared.refusals.Refused.{Refused}
+use Rattle.device_parts.specs.declared.handed.Handed.{Handed}
+use Rattle.seq_model.specs.Contents.{entered}
+use Rattle.seq_model.specs.Histories.{History, caller_of}
+use Rattle.seq_model.specs.Steps.{after}
+use Rattle.seq_model.specs.declared.calls.Call.{Call}
+use Rattle.seq_model.specs.declared.calls.Entry.{Entry}
+use Rattle.seq_model.specs.declared.calls.Entry.TheVariants.{Called}
+use Rattle.seq_model.specs.declared.calls.Reply.{Reply}
+use Rattle.turn_lock.specs.Histories.{AddsOneCall, Extends, new_places}
+use Rattle.turn_lock.specs.Passes.{caller_number, fixed, mine, seen}
+use Rattle.turn_lock.proofs.PlaceLaws.{adds-call, adds-notes, new_places-call, new_places-notes}
+use Rattle.device_calls.specs.Holds.{AddsCall, AddsNotes, IsCause}
+use Rattle.device_calls.specs.Passes.{DevicePass, HasCalled, HasDeclined, limit_of}
+
+-- one call of its caller at most
+pub adds_one : (made : Result (Reply × Handed) (Refused × Call × Handed)) (actor : ℕ) (call : Call) (with : Handed) (old new : History)
+    → IfOk made (λ r. AddsCall actor call with r.0 r.1 old new) → OnErr made (AddsNotes old new) → AddsOneCall caller_of actor old new
+adds_one (Ok r) actor call with old new ok err =
+    subst (λ h. AddsOneCall caller_of actor old h) (sym ok.is)
+    (adds-call caller_of old ok.first ok.last (Called actor (entered (after (old ++ ok.first)) call) r.0) actor refl ok.noted_first ok.noted_last)
+adds_one (Err e) actor call with old new ok err = subst (λ h. AddsOneCall caller_of actor old h) (sym err.1) (adds-notes caller_of actor old err.0 err.2)
+
+-- what the pass has seen then ends with the call and notes, and has its place
+pub has_called : (call : Call) (with : Handed) (r : Reply) (out : Handed) (old new : DevicePass) (entry now : History)
+    → Extends (seen old) entry → seen new ≡ now → mine new ≡ mine old ++ new_places caller_of entry now
+    → AddsCall (caller_number old) call with r out entry now → HasCalled call with r out old new
+has_called call with r out old new entry now later sees grown adds =
+    let e : Entry = Called (caller_number old) (entered (after (entry ++ adds.first)) call) r in
+    let place : new_places caller_of entry (entry ++ (adds.first ++ e ∷ adds.last)) ≡ (length entry + 1 + length adds.first) ∷ [] =
+    new_places-call caller_of entry adds.first adds.last e (caller_number old) refl adds.noted_first adds.noted_last in
+    let at : length entry + 1 + length adds.first ≡ length (entry ++ adds.first) + 1 = (let both = length-append entry adds.first in omega (arith, both)) in
+    record {
+      before = entry ++ adds.first;
+      notes = adds.last;
+      later = (later.0 ++ adds.first, ap (λ h. h ++ adds.first) later.1 ∙ append_assoc (seen old) later.0 adds.first);
+      is = sees ∙ adds.is ∙ sym (append_assoc entry adds.first (e ∷ adds.last));
+      are_notes = adds.noted_last;
+      place = grown ∙ ap (λ h. mine old ++ new_places caller_of entry h) adds.is ∙ ap (λ l. mine old ++ l) place ∙ ap (λ n. mine old ++ n ∷ []) at;
+      reply = adds.reply;
+    }
+
+pub has_declined : (call : Call) (e : Refused) (limit : ℕ) (old new : DevicePass) (entry now : History)
+    → limit_of old ≡ limit → seen new ≡ now → mine new ≡ mine old ++ new_places caller_of entry now
+    → AddsNotes entry now → IsCause e limit now call → HasDeclined call e old new
+has_declined call e limit old new entry now limits sees grown adds cause = record {
+  same = grown ∙ ap (λ h. mine old ++ new_places caller_of entry h) adds.1 ∙ ap (λ l. mine old ++ l) (new_places-notes caller_of entry adds.0 adds.2) ∙ append-nil (mine old);
+  cause = subst (λ h. IsCause e (limit_of old) h call) (sym sees) (subst (λ n. IsCause e n now call) (sym limits) cause);
+}

@@ -1,0 +1,4 @@
+-- What the clauses of this crate cite.
+pub mod Holds
+pub mod Passes
+pub mod Sharing

@@ -1,0 +1,9 @@
+//! The device, which threads share by reference: each call is one hold of the turn.
+#![tactic(auto)]
+
+mod device;
+mod first;
+mod state;
+
+pub use device::{Device, Pass};
+pub use first::{FirstNotices, Fixed};
