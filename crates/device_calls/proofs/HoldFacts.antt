@@ -1,13 +1,15 @@
 -- What a step of the device adds to its history, and what it tells.
-use Rattle.std.proofs.Common.{◌≡◌, ◌∙◌, ◌++◌, ◌∷◌, [], ℕ, Bool, true, false, List, Result, Ok, Err, map, refl, sym, ap, subst, append_assoc}
+use Rattle.std.proofs.Common.{◌≡◌, ◌∙◌, ◌-◌, ◌++◌, ◌∷◌, [], ℕ, Bool, true, false, List, Result, Ok, Err, arith, length, length-append, map, take, refl, sym, ap, subst, append_assoc}
 use Rattle.std.specs.Prelude.{IfErr, IfOk, OnErr}
+use Rattle.std.proofs.Math.Seq.{take-append_seam}
+use Rattle.std.proofs.lemmas.List.{append-nil}
 use Rattle.dev_types.specs.declared.notices.Notice.{Notice}
 use Rattle.dev_types.specs.declared.refusals.Refused.{Refused}
 use Rattle.flight_books.specs.Sweeps.{note, note_of, notes_of}
 use Rattle.frame_future.specs.Flights.{Flying, is_stopped}
 use Rattle.frame_future.specs.Reads.{ended_by}
 use Rattle.device_parts.specs.AllParts.{Inside}
-use Rattle.device_parts.specs.Looks.{given_of}
+use Rattle.device_parts.specs.Looks.{given_of as looked_of}
 use Rattle.device_parts.specs.declared.handed.Handed.{Handed}
 use Rattle.device_core.specs.States.{Device}
 use Rattle.device_core.specs.Stepping.{HasDeclined, HasStepped}
@@ -15,21 +17,22 @@ use Rattle.device_core.specs.Sweeping.{Sweeps, TellsOn}
 use Rattle.seq_model.specs.Contents.{entered}
 use Rattle.seq_model.specs.Histories.{History, caller_of}
 use Rattle.seq_model.specs.Steps.{after}
-use Rattle.seq_model.specs.Told.{source_of, told}
+use Rattle.seq_model.specs.Told.{source_of, told, told_from}
 use Rattle.seq_model.specs.declared.calls.Call.{Call}
 use Rattle.seq_model.specs.declared.calls.Entry.{Entry}
 use Rattle.seq_model.specs.declared.calls.Entry.TheVariants.{Called}
 use Rattle.seq_model.specs.declared.calls.Reply.{Reply}
+use Rattle.device_calls.specs.Sharing.{IsShared, given_of, told_first}
 use Rattle.device_calls.specs.Holds.{AddsCall, AddsNotes, AreNotes, IsCause, IsReplied}
 
 -- nobody calls a note
 notes_none : (fs : List Flying) → AreNotes (map note_of fs)
 notes_none [] = refl
-notes_none (f ∷ fs) = by (is_stopped f)
+notes_none (f ∷ fs) = by (is_stopped f) (notes_none fs)
   where
-    by : (b : Bool) → AreNotes (note b f.ticket ∷ map note_of fs)
-    by true = notes_none fs
-    by false = notes_none fs
+    by : (b : Bool) → AreNotes (map note_of fs) → AreNotes (note b f.ticket ∷ map note_of fs)
+    by true rest = rest
+    by false rest = rest
 
 pub sweep_adds : (old new : Device) → Sweeps old new → AddsNotes old.parts.history new.parts.history
 sweep_adds old new s =
@@ -54,7 +57,7 @@ step_adds actor call with r out old new s =
           ∙ append_assoc (old.parts.history ++ first.0) (Called actor (entered (after (old.parts.history ++ first.0)) call) r ∷ []) last.0
           ∙ append_assoc old.parts.history first.0 (Called actor (entered (after (old.parts.history ++ first.0)) call) r ∷ last.0);
       reply = subst (IsReplied call with r out) first.1 (record {
-        given = given_of s.settled.parts.flights.future (source_of call);
+        given = looked_of s.settled.parts.flights.future (source_of call);
         answered = s.makes.answered;
         array = s.makes.array;
         frame = s.makes.frame;
@@ -133,3 +136,22 @@ module _ (made : Result (Reply × Handed) (Refused × Call × Handed)) (actor : 
           → IfErr made (λ e. HasDeclined call e.0 old new) → new.limit ≡ old.limit
       by (Ok r) stepped declined = step_limit actor call with r.0 r.1 old new stepped
       by (Err e) stepped declined = declined_limit call e.0 old new declined
+
+-- what the client was told first is all but what the history tells
+pub first_is : (d : Device) (first : List Notice) → d.told ≡ first ++ told d.parts.history → told_first d ≡ first
+first_is d first is =
+    let count : length d.told - length (told d.parts.history) ≡ length first =
+    (let all = ap length is ∙ length-append first (told d.parts.history) in omega (arith, all)) in
+    ap (λ n. take n d.told) count ∙ ap (take (length first)) is ∙ take-append_seam first (told d.parts.history)
+
+-- so it stays
+pub given_stays : (old new : Device) → IsShared old → TellsOn old new → new.limit ≡ old.limit → given_of new ≡ given_of old
+given_stays old new shared tells limit =
+    let notices : told_first new ≡ told_first old =
+    first_is new shared.first (tells shared.first shared.told) ∙ sym (first_is old shared.first shared.told) in
+    (λ i. record { limit = limit i; notices = notices i })
+
+-- at first nothing was told but that
+pub nothing_told : (d : Device) (first : List Notice) → d.parts.history ≡ [] → d.told ≡ first → d.told ≡ first ++ told d.parts.history
+unfolding told told_from
+nothing_told d first empty is = is ∙ sym (append-nil first) ∙ ap (λ h. first ++ told h) (sym empty)

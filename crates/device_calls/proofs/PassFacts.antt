@@ -52,3 +52,22 @@ has_declined call e limit old new entry now limits sees grown adds cause = recor
   same = grown ∙ ap (λ h. mine old ++ new_places caller_of entry h) adds.1 ∙ ap (λ l. mine old ++ l) (new_places-notes caller_of entry adds.0 adds.2) ∙ append-nil (mine old);
   cause = subst (λ h. IsCause e (limit_of old) h call) (sym sees) (subst (λ n. IsCause e n now call) (sym limits) cause);
 }
+
+-- whatever a hold answers
+pub made_called : (made : Result (Reply × Handed) (Refused × Call × Handed)) (actor : ℕ) (call : Call) (with : Handed) (old new : DevicePass) (entry now : History)
+    → actor ≡ caller_number old → Extends (seen old) entry → seen new ≡ now → mine new ≡ mine old ++ new_places caller_of entry now
+    → IfOk made (λ r. AddsCall actor call with r.0 r.1 entry now) → IfOk made (λ r. HasCalled call with r.0 r.1 old new)
+made_called (Ok r) actor call with old new entry now same later sees grown adds =
+    has_called call with r.0 r.1 old new entry now later sees grown (subst (λ n. AddsCall n call with r.0 r.1 entry now) same adds)
+made_called (Err e) actor call with old new entry now same later sees grown adds = tt
+
+pub made_declined : (made : Result (Reply × Handed) (Refused × Call × Handed)) (call : Call) (limit : ℕ) (old new : DevicePass) (entry now : History)
+    → limit_of old ≡ limit → seen new ≡ now → mine new ≡ mine old ++ new_places caller_of entry now
+    → OnErr made (AddsNotes entry now) → IfErr made (λ e. IsCause e.0 limit now call) → IfErr made (λ e. HasDeclined call e.0 old new)
+made_declined (Ok r) call limit old new entry now limits sees grown adds cause = tt
+made_declined (Err e) call limit old new entry now limits sees grown adds cause = has_declined call e.0 limit old new entry now limits sees grown adds cause
+
+-- the places of a pass by those that it had
+pub grown_by : (was had now_mine : List ℕ) (entry old now : History) → now_mine ≡ had ++ new_places caller_of entry now → had ≡ was → entry ≡ old
+    → now_mine ≡ was ++ new_places caller_of old now
+grown_by was had now_mine entry old now grown same begins = grown ∙ ap (λ l. l ++ new_places caller_of entry now) same ∙ ap (λ h. was ++ new_places caller_of h now) begins

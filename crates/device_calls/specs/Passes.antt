@@ -3,7 +3,7 @@ use Rattle.std.specs.Prelude.{◌≡◌, ℕ, ◌+◌, List, [], ◌∷◌, ◌+
 use Rattle.std.specs.Option.{option_map_or}
 use Rattle.dev_types.specs.declared.refusals.Refused.{Refused}
 use Rattle.device_calls.specs.Holds.{AreNotes, IsCause, IsReplied}
-use Rattle.device_calls.specs.declared.first.Fixed.{Fixed}
+use Rattle.device_calls.specs.Sharing.{Given}
 use Rattle.device_parts.specs.declared.handed.Handed.{Handed}
 use Rattle.seq_model.specs.Contents.{entered}
 use Rattle.seq_model.specs.Histories.{History}
@@ -19,7 +19,7 @@ use Rattle.turn_lock.specs.declared.pass.Pass.{Pass}
 
 -- a pass of a device
 abbrev pub DevicePass : Type 0
-DevicePass = Pass Entry Fixed
+DevicePass = Pass Entry Given
 
 -- the length of the journal of the pass's device
 abbrev pub limit_of : DevicePass → ℕ

@@ -8,7 +8,7 @@ ghost use Rattle.turn_lock.specs.Passes.{IsPassOf, caller_number, fixed, holding
 ghost use Rattle.turn_lock.specs.Views.{both_shares, half, whole};
 ghost use Rattle.device_calls.specs.Passes.{HasCalled, HasDeclined, Sees};
 
-use crate::first::Fixed;
+use crate::fixed::Fixed;
 use crate::state::SharedState;
 use dev_types::{Client, NoMemory, Refused};
 use device_core::Handed;
@@ -41,7 +41,7 @@ impl<C: Client> Device<C> {
         ensures seen { IfOk result (λ d. (seen d.1 ≡ []) × (mine d.1 ≡ [])) }
         ensures share { IfOk result (λ d. share d.1 ≡ whole) }
         ensures fixed { IfOk result (λ d. fixed d.1
-            ≡ Some (record { limit = limit; first = record { list = C.notices client } })) }
+            ≡ Some (record { limit = limit; notices = C.notices client })) }
         ensures refused { IfErr result (λ e. C.notices e.1 ≡ C.notices client) }
     {
         let state = SharedState::new(alloc, client, limit)?;

@@ -2,8 +2,8 @@
 #![tactic(auto)]
 
 mod device;
-mod first;
+mod fixed;
 mod state;
 
 pub use device::{Device, Pass};
-pub use first::{FirstNotices, Fixed};
+pub use fixed::Fixed;

@@ -7,8 +7,9 @@ ghost use Rattle.seq_model.specs.Histories.{caller_of};
 ghost use Rattle.seq_model.specs.Legal.{Legal};
 ghost use Rattle.seq_model.specs.Steps.{after};
 ghost use Rattle.device_calls.specs.Holds.{AddsCall, AddsNotes, IsCause};
+ghost use Rattle.device_calls.specs.Sharing.{given_of};
 
-use crate::first::{FirstNotices, Fixed};
+use crate::fixed::Fixed;
 use dev_types::{Client, NoMemory, Refused};
 use device_core::{DeviceState, Handed};
 use seq_model::{Call, Entry, Reply};
@@ -20,27 +21,30 @@ use turn_lock::Journaled;
 #[derive(Drop)]
 pub struct SharedState<C: Client> {
     pub(crate) device: DeviceState<C>,
-    pub(crate) first: FirstNotices,
 }
 
 impl<C: Client> Model for SharedState<C> {
-    ghost use Rattle.device_calls.specs.Sharing.{IsShared, Shared};
+    ghost use Rattle.device_core.specs.States.{Device};
+    ghost use Rattle.device_calls.specs.Sharing.{IsShared};
 
-    ghost Value = { Shared };
+    ghost Value = { Device };
 
-    ghost view = { λ s. record { device = s.device; first = s.first.list } };
+    ghost view = { λ s. s.device };
 
-    ghost invariant = { λ s. IsShared (record { device = s.device; first = s.first.list }) };
+    ghost invariant = { λ s. IsShared s.device };
 }
 
 impl<C: Client> Journaled for SharedState<C> {
+    ghost use Rattle.seq_model.specs.Histories.{caller_of};
+    ghost use Rattle.device_calls.specs.Sharing.{given_of};
+
     type Entry = Entry;
 
     type Fixed = Fixed;
 
-    ghost history = { λ s. s.device.parts.history };
+    ghost history = { λ s. s.parts.history };
 
-    ghost fixed = { λ s. record { limit = s.device.limit; first = record { list = s.first } } };
+    ghost fixed = { given_of };
 
     ghost by = { caller_of };
 
@@ -61,15 +65,14 @@ impl<C: Client> SharedState<C> {
     ) -> Result<SharedState<C>, (NoMemory, C)>
         requires some { 2 ≤ limit }
         requires few { limit ≤ 2 ^ 20 }
-        ensures history { IfOk result (λ s. s.device.parts.history ≡ []) }
-        ensures limit { IfOk result (λ s. s.device.limit ≡ limit) }
-        ensures first { IfOk result (λ s. s.first ≡ C.notices client) }
-        ensures told { IfOk result (λ s. s.device.told ≡ C.notices client) }
+        ensures history { IfOk result (λ s. s.parts.history ≡ []) }
+        ensures given { IfOk result (λ s. given_of s
+            ≡ record { limit = limit; notices = C.notices client }) }
+        ensures told { IfOk result (λ s. s.told ≡ C.notices client) }
         ensures refused { IfErr result (λ e. e.1 ≡ client) }
     {
-        let first = FirstNotices::of(&client);
         match DeviceState::new(alloc, client, limit) {
-            Ok(device) => Ok(SharedState { device, first }),
+            Ok(device) => Ok(SharedState { device }),
             Err(refused) => Err(refused),
         }
     }
@@ -86,18 +89,17 @@ impl<C: Client> SharedState<C> {
         call: Call,
         with: Handed,
     ) -> Result<(Reply, Handed), (Refused, Call, Handed)>
-        requires awake { IsAwake (after self.old.device.parts.history) call }
+        requires awake { IsAwake (after self.old.parts.history) call }
         requires hands { Hands call with }
         ensures made { IfOk result (λ r. AddsCall actor call with r.0 r.1
-            self.old.device.parts.history self.new.device.parts.history) }
-        ensures noted { OnErr result (AddsNotes self.old.device.parts.history
-            self.new.device.parts.history) }
-        ensures cause { IfErr result (λ e. IsCause e.0 self.old.device.limit
-            self.new.device.parts.history call) }
+            self.old.parts.history self.new.parts.history) }
+        ensures noted { OnErr result (AddsNotes self.old.parts.history
+            self.new.parts.history) }
+        ensures cause { IfErr result (λ e. IsCause e.0 self.old.limit
+            self.new.parts.history call) }
         ensures returned { IfErr result (λ e. (e.1 ≡ call) × (e.2 ≡ with)) }
-        ensures limit { self.new.device.limit ≡ self.old.device.limit }
-        ensures first { self.new.first ≡ self.old.first }
-        ensures legal { Legal self.new.device.parts.history }
+        ensures given { given_of self.new ≡ given_of self.old }
+        ensures legal { Legal self.new.parts.history }
     {
         let made = self.device.step(alloc, actor, call, with);
         // Its clause tells the proof that the history is legal.
@@ -107,10 +109,10 @@ impl<C: Client> SharedState<C> {
 
     /// The client of a device that is given up before anybody called it.
     pub(crate) fn into_client(self) -> C
-        ensures notices { C.notices result ≡ self.device.told }
-        ensures spare { C.spare result ≡ self.device.spare }
+        ensures notices { C.notices result ≡ self.told }
+        ensures spare { C.spare result ≡ self.spare }
     {
-        let SharedState { device, first: _ } = self;
+        let SharedState { device } = self;
         device.into_client()
     }
 
@@ -119,11 +121,10 @@ impl<C: Client> SharedState<C> {
     /// # Errors
     /// `NoMemory`.
     pub(crate) fn reserve_calls(&mut self, alloc: Global, n: u32) -> Result<(), NoMemory>
-        ensures history { self.new.device.parts.history ≡ self.old.device.parts.history }
-        ensures spare { OnOk result (n ≤ spare_calls self.new.device) }
-        ensures limit { self.new.device.limit ≡ self.old.device.limit }
-        ensures first { self.new.first ≡ self.old.first }
-        ensures legal { Legal self.new.device.parts.history }
+        ensures history { self.new.parts.history ≡ self.old.parts.history }
+        ensures spare { OnOk result (n ≤ spare_calls self.new) }
+        ensures given { given_of self.new ≡ given_of self.old }
+        ensures legal { Legal self.new.parts.history }
     {
         let reserved = self.device.reserve_calls(alloc, n);
         self.device.is_device();

@@ -1,0 +1,28 @@
+use Rattle.std.proofs.Common.{◌≡◌, ◌∙◌, ap, subst}
+use Rattle.std.specs.Prelude.{IfOk, OnErr}
+use Rattle.device_core.specs.States.{Device}
+use Rattle.device_calls.specs.Holds.{AddsCall, AddsNotes}
+use Rattle.device_calls.specs.Sharing.{given_of}
+use Rattle.device_calls.proofs.HoldFacts.{given_stays, made_adds, made_limit, made_notes, made_tells}
+use Rattle.device_calls.proofs.state.SharedState.step.Goals as goal
+
+pub returns-clause-made : goal.returns-clause-made
+returns-clause-made g c =
+    let new = c.step-made.new.self in
+    subst (λ (old : Device). IfOk c.step-made.result (λ r. AddsCall c.args.actor c.args.call c.args.with r.0 r.1 old.parts.history new.parts.history)) c.self.view_is
+    (made_adds c.step-made.result c.args.actor c.args.call c.args.with c.self.inside.device new c.step-made.ensures.stepped c.step-made.ensures.declined)
+
+pub returns-clause-noted : goal.returns-clause-noted
+returns-clause-noted g c =
+    let new = c.step-made.new.self in
+    subst (λ (old : Device). OnErr c.step-made.result (AddsNotes old.parts.history new.parts.history)) c.self.view_is
+    (made_notes c.step-made.result c.args.actor c.args.call c.args.with c.self.inside.device new c.step-made.ensures.stepped c.step-made.ensures.declined)
+
+pub returns-clause-given : goal.returns-clause-given
+returns-clause-given g c =
+    let old = c.self.inside.device in
+    let new = c.step-made.new.self in
+    given_stays old new c.self.invariant
+    (made_tells c.step-made.result c.args.actor c.args.call c.args.with old new c.step-made.ensures.stepped c.step-made.ensures.declined)
+    (made_limit c.step-made.result c.args.actor c.args.call c.args.with old new c.step-made.ensures.stepped c.step-made.ensures.declined)
+    ∙ ap given_of c.self.view_is
