@@ -4,3 +4,4 @@ pub mod Labels
 pub mod Loans
 pub mod Solo
 pub mod Views
+pub mod Places

@@ -119,7 +119,7 @@ none_closes past (e ∷ es) next lets =
     not_closed (Left t) lets = refl
     not_closed Closed lets = absurd cc
 
-closes_once : (history : History) → Legal history → count_by is_close history ≤ 1
+pub closes_once : (history : History) → Legal history → count_by is_close history ≤ 1
 unfolding let_follow
 closes_once history = grows_by (λ history. Legal history → count_by is_close history ≤ 1) (λ legal. omega arith) more history
   where
