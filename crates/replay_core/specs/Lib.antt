@@ -5,3 +5,4 @@ pub mod Loans
 pub mod Solo
 pub mod Views
 pub mod Places
+pub mod Found
