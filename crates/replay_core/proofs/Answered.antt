@@ -17,7 +17,6 @@ use Rattle.seq_model.specs.Steps.{Past, after, change, end_flight, end_flights, 
 use Rattle.seq_model.specs.declared.calls.Call.{Call}
 use Rattle.seq_model.specs.declared.calls.Call.TheVariants.{FrameReady, MapFrame, RenderFrame}
 use Rattle.seq_model.specs.declared.calls.Entry.TheVariants.{Finished}
-use Rattle.seq_model.specs.declared.calls.Reply.TheVariants as reply
 
 -- a call that asks for no flight waits for none
 waits_for_none : (past : Past) (call : Call) → asked_flight past call ≡ None → waited_flight past call ≡ None

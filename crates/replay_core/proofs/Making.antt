@@ -1,6 +1,6 @@
 -- How the calls of one caller, made one after the other, stand in a history.
-use Rattle.std.proofs.Common.{ℕ, ◌≡◌, ◌∙◌, ◌⊎◌, inl, inr, ◌&&◌, Bool, true, false, List, [], ◌∷◌, ◌++◌, All, Option, Some, None, IfSome, fold, refl, sym, ap, subst, append_assoc}
-use Rattle.std.specs.List.{filter, find}
+use Rattle.std.proofs.Common.{ℕ, ◌≡◌, ◌∙◌, ◌&&◌, Bool, true, false, List, [], ◌∷◌, ◌++◌, All, Option, Some, None, IfSome, fold, refl, sym, ap, subst, append_assoc}
+use Rattle.std.specs.List.{find}
 use Rattle.std.specs.Option.{option_map, option_map_or, option_or, option_to_list}
 use Rattle.std.specs.Str.{bytes_eq}
 use Rattle.std.proofs.lemmas.List.{append-nil}
@@ -10,8 +10,8 @@ use Rattle.std.proofs.lemmas.List.Sums.{fold-append}
 use Rattle.replay_core.proofs.ReplayFacts.{replayed_call}
 use Rattle.replay_core.specs.Follows.{CallsNext, Makes, PhaseCaller, after_call, before_call, gone_on, meaning_to}
 use Rattle.replay_core.specs.Labels.{Meaning, binding_of, call_of, handle_of, is_known, label_of}
-use Rattle.replay_core.specs.Loans.{loans_after, unmap_of}
-use Rattle.replay_core.specs.Solo.{Replay, asked_flight, made, ready_for, replayed, stopped_flight, unmapped, with_call, with_note}
+use Rattle.replay_core.specs.Loans.{loans_after}
+use Rattle.replay_core.specs.Solo.{Replay, asked_flight, made, ready_for, replayed, stopped_flight, with_note}
 use Rattle.replay_core.specs.declared.bindings.Binding.{Binding}
 use Rattle.seq_model.specs.Contents.{entered}
 use Rattle.seq_model.specs.Endings.{reply_to}

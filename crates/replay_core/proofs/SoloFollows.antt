@@ -1,21 +1,20 @@
 -- The history of a trace on one thread follows the trace.
-use Rattle.std.proofs.Common.{ℕ, suc, ◌+◌, ◌==◌, ◌≡◌, ◌<◌, ◌≤◌, ◌∙◌, ◌&&◌, ◌||◌, Bool, true, false, List, [], ◌∷◌, ◌++◌, All, Option, Some, None, IfSome, fold, length, map, refl, sym, ap, subst, append_assoc, arith}
-use Rattle.std.specs.Prelude.{cond, nat_lt}
+use Rattle.std.proofs.Common.{ℕ, suc, ◌+◌, ◌==◌, ◌≡◌, ◌<◌, ◌≤◌, ◌∙◌, ◌&&◌, ◌||◌, Bool, false, List, [], ◌∷◌, ◌++◌, All, Option, Some, None, IfSome, fold, length, map, refl, sym, ap, subst, append_assoc, arith}
+use Rattle.std.specs.Prelude.{nat_lt}
 use Rattle.std.specs.List.{enumerate_from, filter, last_or}
 use Rattle.std.proofs.lemmas.Bool.Decides.{nat_tests}
 use Rattle.std.proofs.lemmas.List.{append-nil}
 use Rattle.std.proofs.lemmas.List.Elements.{All-nil, All-cons, All-append, All-head, All-tail, All-weaker}
 use Rattle.replay_core.proofs.Making.{IsBoundBy, IsOf, IsUnknown, Ran, gone_further, ran, skipped}
 use Rattle.replay_core.specs.Follows.{AreOfFirst, BeginsWith, EachMakes, Follows, GoesThrough, Makes, PhaseCaller, gone_on}
-use Rattle.replay_core.specs.Labels.{is_known}
-use Rattle.replay_core.specs.Solo.{Replay, caller_replayed, phase_replayed, replayed, solo, trace_replayed}
+use Rattle.replay_core.specs.Solo.{Replay, caller_replayed, phase_replayed, solo, trace_replayed}
 use Rattle.replay_core.specs.declared.bindings.Binding.{Binding}
 use Rattle.seq_model.proofs.Afters.{seen_is_history}
 use Rattle.seq_model.specs.Endings.{ended, open_flights}
 use Rattle.seq_model.specs.Histories.{History, caller_of, entries_of, is_call_of}
 use Rattle.seq_model.specs.Steps.{Past, after, start, step}
 use Rattle.seq_model.specs.declared.calls.Entry.{Entry}
-use Rattle.seq_model.specs.declared.calls.Entry.TheVariants.{Called, Finished, Left, Closed}
+use Rattle.seq_model.specs.declared.calls.Entry.TheVariants.{Called, Left, Closed}
 use Rattle.trace_text.specs.declared.calls.Caller.{Caller}
 use Rattle.trace_text.specs.declared.calls.Phase.{Phase}
 use Rattle.trace_text.specs.declared.calls.Trace.{Trace}

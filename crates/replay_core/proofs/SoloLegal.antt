@@ -2,7 +2,7 @@
 use Rattle.std.proofs.Common.{ℕ, zero, suc, ◌+◌, ◌≡◌, ◌∙◌, Bool, true, false, List, [], ◌∷◌, ◌++◌, All, Option, Some, None, IfSome, fold, length, refl, sym, ap, subst, arith}
 use Rattle.std.specs.Prelude.{IsSome, cond}
 use Rattle.std.specs.List.{enumerate_from}
-use Rattle.std.specs.Option.{option_map, option_map_or, unwrap_or}
+use Rattle.std.specs.Option.{option_map, unwrap_or}
 use Rattle.std.proofs.lemmas.List.Elements.{All-nil, All-cons, All-head, All-tail}
 use Rattle.kind_tables.specs.SceneObjects.{Block}
 use Rattle.plain_journal.proofs.Closings.{ending_done, ending_over, ending_start, ending_step, led_more, seen_more}
@@ -16,6 +16,7 @@ use Rattle.replay_core.proofs.Answered.{nothing_asked, ready_answers}
 use Rattle.replay_core.proofs.Making.{ends_a_loan}
 use Rattle.replay_core.proofs.ReplayFacts.{asked_flies, end_of_loan, led_first, legal_first, others_sound, replayed_call, stopped_is_there, unmap_is_answered, unmap_is_sound}
 use Rattle.replay_core.specs.Labels.{Meaning, call_of, handle_of}
+use Rattle.replay_core.specs.Places.{EndsLoan}
 use Rattle.replay_core.specs.Loans.{is_unmap, mapped_content, opens, unmap_by, unmap_of}
 use Rattle.replay_core.specs.Solo.{Replay, asked_flight, caller_replayed, made, phase_replayed, ready_for, replayed, solo, stopped_flight, trace_replayed, unmapped, with_call, with_note}
 use Rattle.seq_model.specs.Answers.{answer}
@@ -30,14 +31,14 @@ use Rattle.seq_model.specs.Steps.{Past, after, next_place, start, step}
 use Rattle.seq_model.specs.declared.calls.Call.{Call}
 use Rattle.seq_model.specs.declared.calls.Call.TheVariants.{DiscardFrame, FrameReady, MapFrame, RenderFrame, UnmapArray, UnmapFrame, UnmapParameterArray}
 use Rattle.seq_model.specs.declared.calls.Entry.{Entry}
-use Rattle.seq_model.specs.declared.calls.Entry.TheVariants.{Called, Finished, Left, Closed}
+use Rattle.seq_model.specs.declared.calls.Entry.TheVariants.{Called, Finished, Left}
 use Rattle.seq_model.specs.declared.calls.Reply.{Reply}
 use Rattle.seq_model.specs.declared.calls.Reply.TheVariants as reply
 use Rattle.trace_text.specs.declared.calls.Caller.{Caller}
 use Rattle.trace_text.specs.declared.calls.Phase.{Phase as TracePhase}
 use Rattle.trace_text.specs.declared.calls.Trace.{Trace}
 use Rattle.trace_text.specs.declared.calls.TraceCall.{TraceCall}
-use Rattle.trace_text.specs.declared.calls.TraceCall.TheVariants.{EndLoan, WithArray, WithFrame, WithParam}
+use Rattle.trace_text.specs.declared.calls.TraceCall.TheVariants.{WithArray, WithFrame, WithParam}
 
 -- a past of a legal history in which no reply saw a tile, and which a call may follow
 record IsGood (past : Past) : Type 0 where
@@ -126,14 +127,11 @@ unmaps_ask_for_none past (UnmapFrame h number) is = refl
 unmaps_ask_for_none past _ is = absurd cc
 
 -- what ends a loan is an unmap
-abbrev EndsLoan : Option Call → Type 0
-EndsLoan x = IfSome x (λ unmap. is_unmap unmap ≡ true)
-
 ends_content : (content : Option Block) (h number : ℕ) (bytes : Block → List ℕ) → EndsLoan (option_map (λ b. UnmapArray h number (bytes b)) content)
 ends_content None h number bytes = tt
 ends_content (Some b) h number bytes = refl
 
-unmap_ends : (content : Option Block) (place : ℕ) (meaning : Meaning) (c : TraceCall) (r : Reply) → EndsLoan (unmap_by content place meaning c r)
+pub unmap_ends : (content : Option Block) (place : ℕ) (meaning : Meaning) (c : TraceCall) (r : Reply) → EndsLoan (unmap_by content place meaning c r)
 unmap_ends None place meaning (WithArray array write) (reply.Lent number) = tt
 unmap_ends (Some b) place meaning (WithArray array write) (reply.Lent number) = refl
 unmap_ends content place meaning (WithParam object name elem count write) (reply.Lent number) = refl
@@ -141,11 +139,11 @@ unmap_ends content place meaning (WithFrame frame channel) (reply.Mapped width h
 unmap_ends content place meaning _ _ = tt
 
 -- a replay whose past is good, and whose loans are ended by unmaps
-record IsGoodReplay (r : Replay) : Type 0 where
+pub record IsGoodReplay (r : Replay) : Type 0 where
   past : IsGood r.past
   loans : All EndsLoan r.loans
 
-loan_opened : (t : Bool) (x : Option Call) (loans : List (Option Call)) → EndsLoan x → All EndsLoan loans → All EndsLoan (cond t (x ∷ loans) loans)
+pub loan_opened : (t : Bool) (x : Option Call) (loans : List (Option Call)) → EndsLoan x → All EndsLoan loans → All EndsLoan (cond t (x ∷ loans) loans)
 loan_opened true x loans ends all = All-cons EndsLoan x loans ends all
 loan_opened false x loans ends all = all
 
@@ -175,7 +173,7 @@ good_made phase caller c call r is good =
       loans = loan_opened (opens c) (unmap_of now meaning c (reply_to now call)) r.loans (unmap_ends (mapped_content now meaning c) (next_place now) meaning c (reply_to now call)) good.loans;
     }
 
-good_replayed : (phase caller : ℕ) (r : Replay) (c : TraceCall) → IsGoodReplay r → IsGoodReplay (replayed phase caller r c)
+pub good_replayed : (phase caller : ℕ) (r : Replay) (c : TraceCall) → IsGoodReplay r → IsGoodReplay (replayed phase caller r c)
 good_replayed phase caller r c good = by (call_of (handle_of r.bound phase caller) c) refl
   where
     by : (x : Option Call) → call_of (handle_of r.bound phase caller) c ≡ x → IsGoodReplay (replayed phase caller r c)

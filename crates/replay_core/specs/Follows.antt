@@ -1,6 +1,6 @@
 -- Which histories follow a trace. A history falls into parts, one for each phase of the trace: in a part each caller of the phase makes its
 -- calls, each of them once and in their order, with the labels replaced. Entries that are no calls may stand anywhere, and the close is last.
-use Rattle.std.specs.Prelude.{◌≡◌, ℕ, ◌+◌, ◌<◌, List, [], ◌∷◌, ◌++◌, All, Option, Some, None, fold, length, if◌then◌else◌}
+use Rattle.std.specs.Prelude.{◌≡◌, ℕ, ◌+◌, ◌<◌, List, [], ◌∷◌, ◌++◌, All, Option, Some, None, fold, length}
 use Rattle.std.specs.List.{last_or}
 use Rattle.std.specs.Option.{IfSome}
 use Rattle.replay_core.specs.Labels.{Meaning, binding_of, call_of, handle_of}

@@ -4,3 +4,5 @@ pub mod Labels
 pub mod Loans
 pub mod Solo
 pub mod Views
+pub mod Places
+pub mod Found

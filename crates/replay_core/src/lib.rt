@@ -1,6 +1,7 @@
 //! Replays of traces: which histories follow a trace, and which one a single thread makes of it.
 #![tactic(auto)]
 
+mod binding_order;
 pub mod bindings;
 pub mod calls;
 pub mod examples;
@@ -13,6 +14,6 @@ pub mod replays;
 mod tests;
 pub mod writes;
 
-pub use bindings::{Binding, Labels};
+pub use bindings::{Binding, Bindings, Labels};
 pub use notices::NoticeList;
 pub use replays::{Replayed, solo};

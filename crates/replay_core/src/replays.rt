@@ -19,7 +19,7 @@ ghost use Rattle.seq_model.specs.Told.{told};
 ghost use Rattle.seq_model.specs.declared.calls.Entry.TheVariants.{Called, Left};
 ghost use Rattle.seq_model.specs.declared.calls.Reply.TheVariants.{Done};
 
-use crate::bindings::{Binding, Labels};
+use crate::bindings::{Binding, Bindings, Labels};
 use crate::calls::{call_of, opens};
 use crate::loans::{Unmap, binding_of, content_of, unmap_of};
 use crate::notices::NoticeList;
@@ -36,7 +36,7 @@ use trace_text::{Caller, Phase, Trace, TraceCall};
 /// innermost first, each with the unmap that ends it where it was granted.
 pub struct Replay {
     device: Device<NoticeList>,
-    bound: Vec<Binding>,
+    bound: Bindings,
     loans: VecDeque<Option<Unmap>>,
     ghost led: { past_of device ≡ after (past_of device).seen },
     ghost heard: { notices_of (client_of device) ≡ told (past_of device).seen },
@@ -48,7 +48,7 @@ impl Model for Replay {
 
     ghost Value = { State };
 
-    ghost view = { λ r. record { past = past_of r.device; bound = r.bound.items; loans = r.loans.items } };
+    ghost view = { λ r. record { past = past_of r.device; bound = r.bound; loans = r.loans.items } };
 }
 
 /// The flight of a frame that a call asks for.
@@ -222,7 +222,7 @@ impl Replay {
         if opens(c) {
             self.open(unmap)?;
         }
-        self.bind(binding)
+        self.bind(alloc, binding)
     }
 
     /// One more loan is open.
@@ -234,11 +234,11 @@ impl Replay {
     }
 
     /// One more label is bound, if there is one.
-    fn bind(&mut self, binding: Option<Binding>) -> Result<(), NoMemory>
+    fn bind(&mut self, alloc: Global, binding: Option<Binding>) -> Result<(), NoMemory>
         ensures { OnOk result (self.new ≡ record self.old { bound = self.old.bound ++ option_to_list binding }) }
     {
         if let Some(binding) = binding {
-            self.bound.push(binding).map_err(AllocError::from)?;
+            self.bound.bind(alloc, binding)?;
         }
         Ok(())
     }
@@ -402,7 +402,7 @@ impl Replay {
         match Device::new(alloc, NoticeList::new(alloc)) {
             Ok(device) => Ok(Replay {
                 device,
-                bound: Vec::new(alloc),
+                bound: Bindings::new(alloc),
                 loans: VecDeque::new(alloc),
             }),
             Err((NoMemory, heard)) => Err(heard),

@@ -1,5 +1,5 @@
 // Labels, the calls of a trace and what is written into a loan, with ample memory.
-use crate::bindings::{Binding, Labels};
+use crate::bindings::{Binding, Bindings, Labels};
 use crate::calls::call_of;
 use crate::writes::Draft;
 use dev_types::{DataType, Handle, Name, Origin};
@@ -10,16 +10,19 @@ use trace_text::{ArrayData, Components, Items, TraceCall, Write};
 #[test]
 fn a_label_is_known_to_its_own_caller_and_in_later_phases(rt: HostRuntime) -> Result<(), Fail> {
     let label = Name::new("a").ok_or("a name")?;
-    let mut bound = Vec::new(rt.alloc());
-    bound
-        .push(Binding {
+    let mut bound = Bindings::new(rt.alloc());
+    for (caller, handle) in [(2, 7), (3, 8)] {
+        let binding = Binding {
             label: label.copied(),
-            handle: Handle(7),
+            handle: Handle(handle),
             phase: 1,
-            caller: 2,
-        })
-        .map_err(|_| "out of memory")?;
-    for (phase, caller, handle) in [(1, 2, 7), (1, 3, 0), (2, 3, 7), (0, 2, 0)] {
+            caller,
+        };
+        bound
+            .bind(rt.alloc(), binding)
+            .map_err(|_| "out of memory")?;
+    }
+    for (phase, caller, handle) in [(1, 2, 7), (1, 3, 8), (1, 4, 0), (2, 3, 7), (0, 2, 0)] {
         let labels = Labels {
             bound: &bound,
             phase,
@@ -32,8 +35,9 @@ fn a_label_is_known_to_its_own_caller_and_in_later_phases(rt: HostRuntime) -> Re
 
 #[test]
 fn elements_stand_at_their_stride(rt: HostRuntime) -> Result<(), Fail> {
+    let bound = Bindings::new(rt.alloc());
     let labels = Labels {
-        bound: &[],
+        bound: &bound,
         phase: 0,
         caller: 0,
     };
@@ -57,8 +61,9 @@ fn elements_stand_at_their_stride(rt: HostRuntime) -> Result<(), Fail> {
 
 #[test]
 fn what_has_no_place_is_not_written(rt: HostRuntime) -> Result<(), Fail> {
+    let bound = Bindings::new(rt.alloc());
     let labels = Labels {
-        bound: &[],
+        bound: &bound,
         phase: 0,
         caller: 0,
     };

@@ -1,15 +1,11 @@
 -- How many loans are out after an entry.
-use Rattle.std.proofs.Common.{◌≡◌, ◌∙◌, ◌+◌, ◌<◌, ◌≤◌, ◌*◌, ◌==◌, ◌||◌, ◌&&◌, ◌++◌, ◌∷◌, ℕ, zero, suc, Bool, true, false, not, cond, List, [], Option, Some, None, length, length-append, map, refl, sym, ap, subst, arith}
+use Rattle.std.proofs.Common.{◌≡◌, ◌∙◌, ◌+◌, ◌<◌, ◌≤◌, ◌*◌, ◌==◌, ◌||◌, ◌&&◌, ◌++◌, ◌∷◌, ℕ, suc, Bool, true, false, not, cond, List, [], Option, Some, None, length, length-append, map, refl, sym, ap, subst, arith}
 use Rattle.std.specs.Prelude.{nat_lt}
-use Rattle.std.specs.BTreeMap.{is_at}
 use Rattle.std.specs.List.{filter, list_any, sum_by}
-use Rattle.std.specs.Map.{lookup, set_value, values_of}
 use Rattle.std.specs.Str.{bytes_eq}
 use Rattle.std.specs.Option.{MatchOption, is_none, is_some, option_and_then, option_map, option_map_or, unwrap_or}
-use Rattle.std.specs.Ordering.{nat_cmp}
 use Rattle.std.proofs.lemmas.Bool.{eqb-true, ltb-false}
-use Rattle.std.proofs.lemmas.List.Sums.{sum_by-cons, sum_by_push}
-use Rattle.std.proofs.lemmas.Map.Entries.{sum_by-set_value}
+use Rattle.std.proofs.lemmas.List.Sums.{sum_by-cons}
 use Rattle.dev_types.specs.declared.data_types.DataType.{DataType}
 use Rattle.dev_types.specs.declared.data_types.DataType.TheVariants as ty
 use Rattle.dev_types.specs.declared.handles.Channel.{Channel}
@@ -25,7 +21,7 @@ use Rattle.kind_tables.specs.declared.kinds.Kind.TheVariants.{Array}
 use Rattle.seq_model.specs.Deaths.{changed_by}
 use Rattle.seq_model.specs.Histories.{History}
 use Rattle.seq_model.specs.Legal.{Legal}
-use Rattle.seq_model.specs.Life.{grown, has, is_named_by, is_root, live, loan_count}
+use Rattle.seq_model.specs.Life.{grown, is_named_by, is_root, live, loan_count}
 use Rattle.seq_model.specs.Refusals.{has_type, is_array_loan_out, is_array_out, is_channel_out, is_parameter_loan_out, is_parameter_out, refusal, refusals_of}
 use Rattle.seq_model.specs.Room.{loans_out}
 use Rattle.seq_model.specs.Soundness.{ArrayFits, IsSound}
@@ -44,6 +40,7 @@ use Rattle.seq_model.proofs.Loans.{channel_numbers, loans_are_earlier, parameter
 use Rattle.seq_model.proofs.Prefixes.{in_place, prefix_is_legal}
 use Rattle.seq_model.proofs.SoundHistories.{legal_is_sound}
 use Rattle.room_laws.specs.Loans.{lends, takes_back}
+use Rattle.room_laws.proofs.ObjectSums.{changed_total, new_total, same_total}
 
 abbrev weight : ℕ × Object → ℕ
 weight e = loan_count e.1
@@ -78,28 +75,6 @@ live_sum public is_reached objects =
 
 -- ---- one object changes
 
-by_values : (es : List (ℕ × Object)) → sum_by weight es ≡ sum_by loan_count (values_of es)
-by_values [] = refl
-by_values (e ∷ es) = sum_by-cons weight e es ∙ ap (λ n. loan_count e.1 + n) (by_values es) ∙ sym (sum_by-cons loan_count e.1 (values_of es))
-
--- an object that is there changes
-changed_sum : (h : ℕ) (f : Object → Object) (s : State) (o : Object) → object_at s h ≡ Some o → loans_out (changed_at h f s) + loan_count o ≡ loans_out s + loan_count (f o)
-changed_sum h f s o there =
-    ap (λ x. sum_by weight (unwrap_or (option_map (λ o. set_value (is_at (nat_cmp h)) s.objects (f o)) x) s.objects) + loan_count o) there
-    ∙ ap (λ n. n + loan_count o) (by_values (set_value (is_at (nat_cmp h)) s.objects (f o)))
-    ∙ sum_by-set_value loan_count (is_at (nat_cmp h)) s.objects o (f o) there
-    ∙ ap (λ n. n + loan_count (f o)) (sym (by_values s.objects))
-
-same_sum : (h : ℕ) (f : Object → Object) (s : State) → ((o : Object) → loan_count (f o) ≡ loan_count o) → loans_out (changed_at h f s) ≡ loans_out s
-same_sum h f s same = by (object_at s h) refl
-  where
-    by : (x : Option Object) → object_at s h ≡ x → loans_out (changed_at h f s) ≡ loans_out s
-    by None none = ap (λ x. sum_by weight (unwrap_or (option_map (λ o. set_value (is_at (nat_cmp h)) s.objects (f o)) x) s.objects)) none
-    by (Some o) there = let moved = changed_sum h f s o there in let still = same o in omega (arith, moved, still)
-
-new_sum : (o : Object) (s : State) → loan_count o ≡ 0 → loans_out (with_object o s) ≡ loans_out s
-new_sum o s none = sum_by_push weight s.objects (s.next, o) ∙ (let zero_more = none in omega (arith, zero_more))
-
 same_ended : (t : ℕ) (phase : Phase) (o : Object) → loan_count (end_flight t phase o) ≡ loan_count o
 unfolding end_flight
 same_ended t phase o = by _
@@ -121,7 +96,7 @@ flights_sum t phase s = ended_sum t phase s.objects
 
 discarded_sum : (h : ℕ) (s : State) → loans_out (discard h s) ≡ loans_out s
 unfolding discard
-discarded_sum h s = by (option_map_or (λ (o : Object). o.phase) (object_at s h) Empty) ∙ same_sum h (set_phase Empty) s (λ o. refl)
+discarded_sum h s = by (option_map_or (λ (o : Object). o.phase) (object_at s h) Empty) ∙ same_total loan_count h (set_phase Empty) s (λ o. refl)
   where
     by : (phase : Phase) → loans_out (stop phase (changed_at h (set_phase Empty) s)) ≡ loans_out (changed_at h (set_phase Empty) s)
     by Empty = refl
@@ -271,7 +246,7 @@ abbrev Moves : History → Entry → Type 0
 Moves history e = loans_out (changed_by history e) + takes_back e ≡ loans_out (after history).state + lends e
 
 moved_here : (h : ℕ) (f : Object → Object) (s : State) (o : Object) (more less : ℕ) → object_at s h ≡ Some o → loan_count (f o) + less ≡ loan_count o + more → loans_out (changed_at h f s) + less ≡ loans_out s + more
-moved_here h f s o more less there moves = let all = changed_sum h f s o there in omega (arith, all, moves)
+moved_here h f s o more less there moves = let all = changed_total loan_count h f s o there in omega (arith, all, moves)
 
 module _ (history : History) (actor : ℕ) where
   map_array_moves : (h n : ℕ) → Legal (history ++ Called actor (MapArray h) (reply.Lent n) ∷ []) → Moves history (Called actor (MapArray h) (reply.Lent n))
@@ -332,8 +307,8 @@ module _ (history : History) (actor : ℕ) where
       let first : loans_out ended + 1 ≡ loans_out (after history).state + 0 =
       moved_here h (end_parameter_loan loan.0.number) (after history).state o.0 0 1 o.1
       (let less = loan_less (length history + 1) loan.0.number o.0 (loans_are_earlier history h o.0 o.1).parameters (subst (λ n. list_any (λ (l : ParameterLoan). l.number == n) o.0.parameter_loans ≡ true) (sym loan.2) any) in omega (arith, less)) in
-      let second : loans_out staged ≡ loans_out ended = same_sum h (set_staged (with_value name (value.Object ty.Array1D (after history).state.next))) ended (λ o. refl) in
-      let third : loans_out (with_object fresh_one staged) ≡ loans_out staged = new_sum fresh_one staged refl in
+      let second : loans_out staged ≡ loans_out ended = same_total loan_count h (set_staged (with_value name (value.Object ty.Array1D (after history).state.next))) ended (λ o. refl) in
+      let third : loans_out (with_object fresh_one staged) ≡ loans_out staged = new_total loan_count fresh_one staged refl in
       let all : loans_out (changed_by history (Called actor (UnmapParameterArray h name number bytes) (reply.Made handle))) ≡ loans_out (with_object fresh_one staged) =
       ap (λ x. loans_out (option_map_or (λ loan. take_in h name bytes loan (after history).state) x (after history).state)) found in
       omega (arith, all, first, second, third)
@@ -352,22 +327,22 @@ starts = refl
 
 made_sum : (kind : Option Kind) (s : State) → loans_out (unwrap_or (option_map (λ kind. with_object (fresh kind None) s) kind) s) ≡ loans_out s
 made_sum None s = refl
-made_sum (Some kind) s = new_sum (fresh kind None) s refl
+made_sum (Some kind) s = new_total loan_count (fresh kind None) s refl
 
 changes_move : (history : History) (e : Entry) → Legal (history ++ e ∷ []) → (e ≡ Closed → ⊥) → Moves history e
 unfolding change effect
 changes_move history (Called actor (NewObject t subtype) (reply.Made n)) legal open_ = ap (λ k. k + 0) (made_sum (kind_of t subtype) (after history).state)
 changes_move history (Called actor (NewArray elem count stride origin bytes) (reply.Made n)) legal open_ =
-    ap (λ k. k + 0) (new_sum (fresh_array elem count stride origin bytes) (after history).state refl)
-changes_move history (Called actor (SetParameter h name v) reply.Done) legal open_ = ap (λ k. k + 0) (same_sum h (set_staged (with_value name v)) (after history).state (λ o. refl))
-changes_move history (Called actor (UnsetParameter h name) reply.Done) legal open_ = ap (λ k. k + 0) (same_sum h (set_staged (without_value name)) (after history).state (λ o. refl))
-changes_move history (Called actor (UnsetAll h) reply.Done) legal open_ = ap (λ k. k + 0) (same_sum h (set_staged (λ _. [])) (after history).state (λ o. refl))
-changes_move history (Called actor (Commit h) reply.Done) legal open_ = ap (λ k. k + 0) (same_sum h commit (after history).state (λ o. refl))
+    ap (λ k. k + 0) (new_total loan_count (fresh_array elem count stride origin bytes) (after history).state refl)
+changes_move history (Called actor (SetParameter h name v) reply.Done) legal open_ = ap (λ k. k + 0) (same_total loan_count h (set_staged (with_value name v)) (after history).state (λ o. refl))
+changes_move history (Called actor (UnsetParameter h name) reply.Done) legal open_ = ap (λ k. k + 0) (same_total loan_count h (set_staged (without_value name)) (after history).state (λ o. refl))
+changes_move history (Called actor (UnsetAll h) reply.Done) legal open_ = ap (λ k. k + 0) (same_total loan_count h (set_staged (λ _. [])) (after history).state (λ o. refl))
+changes_move history (Called actor (Commit h) reply.Done) legal open_ = ap (λ k. k + 0) (same_total loan_count h commit (after history).state (λ o. refl))
 changes_move history (Called actor (MapArray h) (reply.Lent n)) legal open_ = map_array_moves history actor h n legal
 changes_move history (Called actor (UnmapArray h number bytes) reply.Done) legal open_ = unmap_array_moves history actor h number bytes legal
 changes_move history (Called actor (MapParameterArray h name elem count) (reply.Lent n)) legal open_ = lend_parameter_moves history actor h name elem count n legal
 changes_move history (Called actor (UnmapParameterArray h name number bytes) (reply.Made n)) legal open_ = take_in_moves history actor h number n name bytes legal
-changes_move history (Called actor (RenderFrame h) reply.Done) legal open_ = ap (λ k. k + 0) (same_sum h (set_phase (Flight (length (after history).seen + 1))) (after history).state (λ o. refl))
+changes_move history (Called actor (RenderFrame h) reply.Done) legal open_ = ap (λ k. k + 0) (same_total loan_count h (set_phase (Flight (length (after history).seen + 1))) (after history).state (λ o. refl))
 changes_move history (Called actor (DiscardFrame h) reply.Done) legal open_ = ap (λ k. k + 0) (discarded_sum h (after history).state)
 changes_move history (Called actor (MapFrame h c) (reply.Mapped width height t rows)) legal open_ = map_channel_moves history actor h c width height t rows legal
 changes_move history (Called actor (UnmapFrame h number) reply.Done) legal open_ = unmap_channel_moves history actor h number legal
@@ -378,7 +353,7 @@ changes_move history Closed legal open_ = absurd (open_ refl)
 changes_move history e legal open_ = refl
 
 -- and what dies by it is not lent
-left_lent : (history : History) (e : Entry) → loans_out (after (history ++ e ∷ [])).state ≡ loans_out (changed_by history e)
+pub left_lent : (history : History) (e : Entry) → loans_out (after (history ++ e ∷ [])).state ≡ loans_out (changed_by history e)
 unfolding step swept
 left_lent history e = ap (λ (past : Past). loans_out past.state) (after_more history e) ∙ live_sum _ _ (changed_by history e).objects
 

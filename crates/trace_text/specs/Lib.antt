@@ -4,3 +4,4 @@ pub mod Ops
 pub mod Forms
 pub mod Places
 pub mod Reading
+pub mod Counts

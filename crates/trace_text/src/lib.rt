@@ -9,11 +9,13 @@ mod components;
 mod fault;
 mod forms;
 mod json;
+mod laws;
 mod ops;
 mod reader;
 
 pub use calls::{ArrayData, Caller, Components, Phase, Query, SetValue, Trace, TraceCall, Write};
 pub use components::value_of_numbers;
 pub use fault::{TraceError, TraceFault};
+pub use laws::traces_have_few_calls;
 pub use reader::read_trace;
 pub use sqlite_items::Items;
