@@ -171,3 +171,15 @@ places_left old now before after count told places more left has dead ends room 
       ends = omega (arith, left_and_gone old now left, has.number, number, has.ends, room, ap one_if left.ready, ap length dead, keys, most_collected ended_of (gone old.state now.state));
       handles = omega (arith, left_and_gone old now left, has.number, number, has.handles, same, ap one_if left.ready);
     }
+
+-- no object is left, and there is room for the ends of all that there were
+pub places_cleared : (old new : Stored) (before dead : Ends) (count told before_places places : ℕ) → HasPlaces old before count told before_places → new.state.objects ≡ [] → new.ready ≡ false →
+    dead ≡ record before { list = ended old.state.objects } → HasPlaces new dead 0 0 places
+places_cleared old new before dead count told before_places places had none unready are = record {
+  number = ap length none;
+  tellable = ap (λ objects. length (filter_map end_of_object objects)) none;
+  ends =
+      let room : dead.room ≡ before.room = ap (λ (d : Ends). d.room) are in
+      omega (arith, ap one_if unready, ap (λ (d : Ends). length d.list) are, room, most_collected ended_of old.state.objects, had.number, had.ends);
+  handles = omega (arith, ap one_if unready);
+}

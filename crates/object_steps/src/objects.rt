@@ -202,6 +202,28 @@ impl ObjectStore {
         self.tell(client);
     }
 
+    /// All objects end, as with a close, and the client is told of their ends by rising handle.
+    /// Handles go on from where they were. This takes no memory.
+    pub fn clear<C: Client>(&mut self, client: &mut C)
+        requires none { self.old.dead ≡ [] }
+        requires spare { tellable self.old.stored.state ≤ C.spare client.old }
+        ensures state { self.new.stored.state ≡ record self.old.stored.state { objects = [] } }
+        ensures public { self.new.stored.public ≡ [] }
+        ensures holds { self.new.stored.holds ≡ [] }
+        ensures departed { self.new.departed ≡ [] }
+        ensures dead { self.new.dead ≡ [] }
+        ensures told { C.notices client.new ≡ C.notices client.old ++ filter_map end_of_object
+            self.old.stored.state.objects }
+        ensures room { C.spare client.old ≤ C.spare client.new + length (filter_map end_of_object
+            self.old.stored.state.objects) }
+    {
+        self.departed.clear();
+        self.store.clear(*self.departed.allocator(), &mut self.dead);
+        self.count = 0;
+        self.tellable = 0;
+        self.tell(client);
+    }
+
     /// All objects end, and the client is told of their ends by rising handle. This takes no memory.
     pub fn close<C: Client>(self, client: &mut C)
         requires none { self.dead ≡ [] }
@@ -211,15 +233,8 @@ impl ObjectStore {
         ensures room { C.spare client.old ≤ C.spare client.new + length (filter_map end_of_object
             self.stored.state.objects) }
     {
-        let ObjectStore {
-            store,
-            count: _,
-            tellable: _,
-            mut dead,
-            departed: _,
-        } = self;
-        store.close(&mut dead);
-        dead.tell(client);
+        let mut objects = self;
+        objects.clear(client);
     }
 
     /// One flight more holds an object, which is there.

@@ -8,6 +8,7 @@ pub mod DeadOrder
 pub mod DeadSteps
 pub mod Deaths
 pub mod Dying
+pub mod Emptied
 pub mod Gathered
 pub mod Holdings
 pub mod Keyed

@@ -1,4 +1,4 @@
-//! The end of all arrays, as a device is closed.
+//! The end of all objects, as a device is closed.
 ghost use Rattle.std.specs.Prelude.{◌≡◌, ◌≤◌, [], length};
 ghost use Rattle.handle_table.specs.HandleMaps.{RiseWithin};
 ghost use Rattle.object_store.specs.Ends.{ended};
@@ -24,5 +24,16 @@ pub fn end_all(slots: &Table<Slot>, mut arrays: ArrayStore, dead: &mut Dead)
         if is_there(slots, Handle(h)) {
             dead.add((Handle(h), arrays.remove(Handle(h))));
         }
+    }
+}
+
+/// Takes away what is kept of all objects. Handles go on from where they were. This takes no memory.
+pub fn empty_slots(slots: &mut Table<Slot>)
+    ensures none { slots.new.entries ≡ [] }
+    ensures next { slots.new.next ≡ slots.old.next }
+{
+    let next = slots.next().0;
+    for h in 1..next {
+        let _slot = slots.remove(Handle(h));
     }
 }

@@ -14,7 +14,7 @@ ghost use Rattle.dev_types.specs.declared.values.Value.TheVariants as value;
 ghost use Rattle.scene_read.specs.Reading.{lent as lent_block};
 
 use crate::account::{account, public_of, unname_object, unname_times};
-use crate::closing::end_all;
+use crate::closing::{empty_slots, end_all};
 use crate::contents::{bytes_at, elements_len, name_content, taken_back, unname_content};
 use crate::dead::{Dead, order_handles};
 use crate::loans::{ParameterLoan, is_any_out, loan_with};
@@ -32,6 +32,7 @@ use kind_tables::Kind;
 use ref_counts::Counts;
 use std::alloc::Global;
 use std::marker::Model;
+use std::mem;
 
 /// The objects of a device.
 #[derive(Drop)]
@@ -281,22 +282,25 @@ impl Store {
     }
 
     /// All objects end: the arrays among them, for which there is room among the dead, stand there
-    /// by rising handle. This takes no memory.
-    pub fn close(self, dead: &mut Dead)
+    /// by rising handle. Handles go on from where they were. This takes no memory.
+    pub fn clear(&mut self, alloc: Global, dead: &mut Dead)
         requires none { dead.old.list ≡ [] }
-        requires room { length (ended self.state.objects) ≤ dead.old.room }
-        ensures dead { dead.new ≡ record dead.old { list = ended self.state.objects } }
+        requires room { length (ended self.old.state.objects) ≤ dead.old.room }
+        ensures store { self.new ≡ record {
+          state = record self.old.state { objects = [] };
+          public = [];
+          holds = [];
+          ready = false;
+          places = self.old.places;
+        } }
+        ensures dead { dead.new ≡ record dead.old { list = ended self.old.state.objects } }
         ensures notices { filter_map notice_of dead.new.list ≡ filter_map end_of_object
-            self.state.objects }
+            self.old.state.objects }
     {
-        let Store {
-            slots,
-            arrays,
-            counts: _,
-            stopped: _,
-            bound: _,
-        } = self;
-        end_all(&slots, arrays, dead);
+        let arrays = mem::replace(&mut self.arrays, ArrayStore::new(alloc));
+        end_all(&self.slots, arrays, dead);
+        empty_slots(&mut self.slots);
+        self.counts = Counts::new(alloc);
     }
 
     /// One more public reference to an object, which has one.
