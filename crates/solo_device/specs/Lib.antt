@@ -1,0 +1,4 @@
+-- What the clauses of this crate cite.
+pub mod OneThread
+pub mod Rendering
+pub mod Untouched

@@ -1,0 +1,7 @@
+//! A device with one caller, on one thread: a flight is rendered when it is asked for, so that no call
+//! waits for one.
+#![tactic(auto)]
+
+mod flights;
+
+pub use flights::render_flight;
