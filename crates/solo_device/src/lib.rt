@@ -2,6 +2,9 @@
 //! waits for one.
 #![tactic(auto)]
 
+mod devices;
 mod flights;
 
+pub use device_core::Handed;
+pub use devices::{Ended, SoloDevice};
 pub use flights::render_flight;
