@@ -66,7 +66,7 @@ step_adds actor call with r out old new s =
     }
 
 -- what was told stays told
-tells_through : (one two three : Device) → TellsOn one two → TellsOn two three → TellsOn one three
+pub tells_through : (one two three : Device) → TellsOn one two → TellsOn two three → TellsOn one three
 tells_through one two three first then before is = then before (first before is)
 
 pub step_tells : (actor : ℕ) (call : Call) (with : Handed) (r : Reply) (out : Handed) (old new : Device) → HasStepped actor call with r out old new → TellsOn old new
@@ -155,3 +155,6 @@ given_stays old new shared tells limit =
 pub nothing_told : (d : Device) (first : List Notice) → d.parts.history ≡ [] → d.told ≡ first → d.told ≡ first ++ told d.parts.history
 unfolding told told_from
 nothing_told d first empty is = is ∙ sym (append-nil first) ∙ ap (λ h. first ++ told h) (sym empty)
+
+pub told_is : (d : Device) → IsShared d → d.told ≡ told_first d ++ told d.parts.history
+told_is d shared = shared.told ∙ ap (λ first. first ++ told d.parts.history) (sym (first_is d shared.first shared.told))

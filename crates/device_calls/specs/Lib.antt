@@ -1,4 +1,5 @@
 -- What the clauses of this crate cite.
 pub mod Holds
 pub mod Passes
+pub mod Replies
 pub mod Sharing
