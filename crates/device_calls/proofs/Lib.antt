@@ -3,3 +3,4 @@ pub mod CloseFacts
 pub mod HoldFacts
 pub mod PassFacts
 pub mod ReplyFacts
+pub mod WorkFacts

@@ -3,3 +3,4 @@ pub mod Holds
 pub mod Passes
 pub mod Replies
 pub mod Sharing
+pub mod Working

@@ -7,7 +7,9 @@ mod fixed;
 mod objects;
 mod queries;
 mod state;
+mod work;
 
 pub use device::{Device, Pass};
-pub use device_core::{Closed, Handed};
+pub use device_core::{Closed, Handed, Idle};
 pub use fixed::Fixed;
+pub use work::Worked;
