@@ -1,5 +1,6 @@
 -- Lemmas of this crate.
 pub mod CloseFacts
+pub mod FrameFacts
 pub mod HoldFacts
 pub mod PassFacts
 pub mod ReplyFacts

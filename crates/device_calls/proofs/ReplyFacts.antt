@@ -93,11 +93,11 @@ still_denied true given refused = (refused, refl)
 still_denied false given refused = (refused, refl)
 
 -- a reply that does not refuse is the one that is granted
-pub is_granted : (call : Call) (r : Reply) (out : Handed) (before : History) → IsLoanless call → IsReplied call hand.Nothing r out before
+pub granted_reply : (call : Call) (with : Handed) (r : Reply) (out : Handed) (before : History) → entered (after before) call ≡ call → IsReplied call with r out before
     → ((refused : Refused) → r ≡ reply.Denied refused → ⊥) → (given : ℕ) × (option_map (told_with given call) (granted (after before) call) ≡ Some r)
 unfolding answer
-is_granted call r out before is replied granting =
-    (replied.given, by (refusal (after before) call) (sym (ap (λ k. option_map (told_with replied.given call) (answer (after before) k)) (loanless_entered (after before) call is)) ∙ replied.answered))
+granted_reply call with r out before same replied granting =
+    (replied.given, by (refusal (after before) call) (sym (ap (λ k. option_map (told_with replied.given call) (answer (after before) k)) same) ∙ replied.answered))
   where
     by : (x : Option Refused) → option_map (told_with replied.given call) (option_or (option_map reply.Denied x) (granted (after before) call)) ≡ Some r
         → option_map (told_with replied.given call) (granted (after before) call) ≡ Some r
@@ -109,6 +109,10 @@ is_granted call r out before is replied granting =
       where
         some_is : {a : Reply} → Some a ≡ Some r → r ≡ a
         some_is same = cc
+
+pub is_granted : (call : Call) (r : Reply) (out : Handed) (before : History) → IsLoanless call → IsReplied call hand.Nothing r out before
+    → ((refused : Refused) → r ≡ reply.Denied refused → ⊥) → (given : ℕ) × (option_map (told_with given call) (granted (after before) call) ≡ Some r)
+is_granted call r out before is = granted_reply call hand.Nothing r out before (loanless_entered (after before) call is)
 
 -- a call that is done where it is not refused
 done_told : (b : Bool) (given : ℕ) → (if b then with_given given reply.Done else reply.Done) ≡ reply.Done

@@ -4,6 +4,7 @@
 mod close;
 mod device;
 mod fixed;
+mod frames;
 mod objects;
 mod queries;
 mod state;
