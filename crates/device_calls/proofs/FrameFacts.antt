@@ -1,9 +1,8 @@
 -- How maps of channels and the ends of their loans are answered.
-use Rattle.std.proofs.Common.{◌≡◌, ◌∙◌, ◌+◌, ℕ, true, false, Option, Some, None, length, refl, sym, ap, subst}
+use Rattle.std.proofs.Common.{◌≡◌, ◌∙◌, ◌+◌, ℕ, true, Some, None, length, refl, sym, ap, subst}
 use Rattle.dev_types.specs.declared.handles.Channel.{Channel}
 use Rattle.dev_types.specs.declared.refusals.Refused.{Refused}
-use Rattle.device_parts.proofs.MakeFacts.{joined_again}
-use Rattle.device_parts.specs.Makes.{LendsChannel, array_of, frame_left, frame_of, joined}
+use Rattle.device_parts.specs.Makes.{LendsChannel, array_of, frame_left, frame_of}
 use Rattle.device_parts.specs.Maps.{is_refused, told_of}
 use Rattle.device_parts.specs.declared.handed.Handed.{Handed}
 use Rattle.device_parts.specs.declared.handed.Handed.TheVariants as hand
@@ -11,14 +10,11 @@ use Rattle.frame_future.specs.Mapped.{Mapped}
 use Rattle.object_steps.specs.Carrying.{handed}
 use Rattle.object_steps.specs.declared.array_loans.ArrayLoan.TheVariants as loan
 use Rattle.seq_model.specs.Contents.{entered}
-use Rattle.seq_model.specs.Histories.{History}
 use Rattle.seq_model.specs.State.{State}
 use Rattle.seq_model.specs.Steps.{Past, after}
-use Rattle.seq_model.specs.declared.calls.Call.{Call}
 use Rattle.seq_model.specs.declared.calls.Call.TheVariants.{MapFrame, UnmapFrame}
 use Rattle.seq_model.specs.declared.calls.Reply.{Reply}
 use Rattle.seq_model.specs.declared.calls.Reply.TheVariants as reply
-use Rattle.device_calls.specs.Holds.{IsReplied}
 use Rattle.device_calls.specs.Passes.{DevicePass, HasCalled}
 use Rattle.device_calls.proofs.ReplyFacts.{granted_reply}
 

@@ -1,7 +1,6 @@
 -- A hold of the turn, as the pass tells it that made it.
 use Rattle.std.proofs.Common.{◌≡◌, ◌∙◌, ◌++◌, ◌∷◌, ◌+◌, [], ℕ, List, Result, Ok, Err, length, length-append, refl, sym, ap, subst, arith, append_assoc}
-use Rattle.std.specs.Prelude.{IfErr, IfOk, OnErr, Some}
-use Rattle.std.specs.Option.{option_map_or}
+use Rattle.std.specs.Prelude.{IfErr, IfOk, OnErr}
 use Rattle.std.proofs.lemmas.List.{append-nil}
 use Rattle.dev_types.specs.declared.refusals.Refused.{Refused}
 use Rattle.device_parts.specs.declared.handed.Handed.{Handed}

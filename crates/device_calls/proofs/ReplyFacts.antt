@@ -12,14 +12,12 @@ use Rattle.device_parts.proofs.MakeFacts.{joined_again}
 use Rattle.device_parts.specs.Makes.{Hands, array_of, frame_left, frame_of, joined}
 use Rattle.device_parts.specs.declared.handed.Handed.{Handed}
 use Rattle.device_parts.specs.declared.handed.Handed.TheVariants as hand
-use Rattle.frame_future.specs.Mapped.{Mapped}
 use Rattle.kind_tables.specs.Kinds.{kind_of, subtypes_of}
 use Rattle.kind_tables.specs.Rows.{parameters_of, row_of}
 use Rattle.kind_tables.specs.declared.kinds.Kind.{Kind}
 use Rattle.kind_tables.specs.declared.rows.Row.{Row}
 use Rattle.object_steps.specs.Applying.{tells_of_flights}
 use Rattle.object_steps.specs.Carrying.{handed}
-use Rattle.object_steps.specs.declared.array_loans.ArrayLoan.{ArrayLoan}
 use Rattle.object_steps.specs.declared.array_loans.ArrayLoan.TheVariants as loan
 use Rattle.seq_model.specs.Answers.{answer, granted, info_of, property_of}
 use Rattle.seq_model.specs.Contents.{entered}

@@ -1,5 +1,5 @@
 -- What is answered to whoever asks the flights for work.
-use Rattle.std.proofs.Common.{◌≡◌, ◌∙◌, ◌||◌, ◌==◌, ◌++◌, ℕ, zero, suc, Bool, true, false, List, [], ◌∷◌, Option, Some, None, Result, Ok, Err, length, map, refl, sym, ap, subst, arith, cond}
+use Rattle.std.proofs.Common.{◌≡◌, ◌∙◌, ◌||◌, ◌==◌, ◌++◌, ℕ, zero, suc, Bool, true, false, List, [], ◌∷◌, Some, Result, Ok, Err, map, refl, sym, ap, subst}
 use Rattle.std.specs.Prelude.{IfOk, slice_set}
 use Rattle.std.specs.List.{slice_get}
 use Rattle.dev_types.specs.declared.handles.NoMemory.{NoMemory as NoRoom}

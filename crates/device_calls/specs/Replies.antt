@@ -1,9 +1,9 @@
 -- Calls with which no loan goes and comes, and how they are answered.
-use Rattle.std.specs.Prelude.{◌≡◌, ◌⊎◌, ℕ, false}
+use Rattle.std.specs.Prelude.{◌≡◌, ◌⊎◌, false}
 use Rattle.dev_types.specs.declared.refusals.Refused.{Refused}
 use Rattle.device_parts.specs.declared.handed.Handed.TheVariants as handed
 use Rattle.seq_model.specs.declared.calls.Call.{Call}
-use Rattle.seq_model.specs.declared.calls.Call.TheVariants.{Commit, DiscardFrame, FrameReady, GetProperty, MapArray, MapFrame, MapParameterArray, NewArray, NewObject, ObjectInfo, ParameterInfo, Release, RenderFrame, Retain, SetParameter, Subtypes, UnmapArray, UnmapFrame, UnmapParameterArray, UnsetAll, UnsetParameter}
+use Rattle.seq_model.specs.declared.calls.Call.TheVariants.{Commit, DiscardFrame, FrameReady, MapArray, MapFrame, MapParameterArray, Release, RenderFrame, Retain, SetParameter, UnmapArray, UnmapFrame, UnmapParameterArray, UnsetAll, UnsetParameter}
 use Rattle.seq_model.specs.declared.calls.Reply.{Reply}
 use Rattle.seq_model.specs.declared.calls.Reply.TheVariants as reply
 use Rattle.device_calls.specs.Passes.{DevicePass, HasCalled, HasDeclined}

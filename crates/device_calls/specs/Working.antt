@@ -1,5 +1,5 @@
 -- Work that is taken of the flights, and what was done with it.
-use Rattle.std.specs.Prelude.{◌≡◌, ℕ, true, false, List, [], ◌∷◌, None}
+use Rattle.std.specs.Prelude.{◌≡◌, ℕ, true, false, [], ◌∷◌, None}
 use Rattle.device_calls.specs.declared.work.Worked.{Worked}
 use Rattle.device_calls.specs.declared.work.Worked.TheVariants as worked
 use Rattle.device_parts.specs.declared.works.Handout.{Handout}

@@ -1,4 +1,4 @@
-use Rattle.device_calls.proofs.ReplyFacts.{loanless_awake, loanless_hands, made_of_none}
+use Rattle.device_calls.proofs.ReplyFacts.{made_of_none}
 use Rattle.device_calls.proofs.device.Device.reply.Goals as goal
 
 pub returns-in_default : goal.returns-in_default

@@ -1,4 +1,4 @@
-use Rattle.std.proofs.Common.{◌≡◌, ◌∙◌, subst, sym}
+use Rattle.std.proofs.Common.{◌∙◌, subst, sym}
 use Rattle.seq_model.specs.Histories.{caller_of}
 use Rattle.turn_lock.proofs.PlaceLaws.{adds-notes}
 use Rattle.turn_lock.specs.Histories.{AddsOneCall}

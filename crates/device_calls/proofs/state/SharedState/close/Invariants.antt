@@ -1,4 +1,3 @@
-use Rattle.std.proofs.Common.{◌≡◌}
 use Rattle.device_core.specs.Sweeping.{TellsOn}
 use Rattle.device_calls.specs.Holds.{AddsNotes}
 use Rattle.frame_future.specs.Future.{AreHome}
