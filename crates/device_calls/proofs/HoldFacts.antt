@@ -15,11 +15,9 @@ use Rattle.device_core.specs.States.{Device}
 use Rattle.device_core.specs.Stepping.{HasDeclined, HasStepped}
 use Rattle.device_core.specs.Sweeping.{Sweeps, TellsOn}
 use Rattle.seq_model.specs.Contents.{entered}
-use Rattle.seq_model.specs.Histories.{History, caller_of}
 use Rattle.seq_model.specs.Steps.{after}
 use Rattle.seq_model.specs.Told.{source_of, told, told_from}
 use Rattle.seq_model.specs.declared.calls.Call.{Call}
-use Rattle.seq_model.specs.declared.calls.Entry.{Entry}
 use Rattle.seq_model.specs.declared.calls.Entry.TheVariants.{Called}
 use Rattle.seq_model.specs.declared.calls.Reply.{Reply}
 use Rattle.device_calls.specs.Sharing.{IsShared, given_of, told_first}
@@ -35,9 +33,11 @@ notes_none (f ∷ fs) = by (is_stopped f) (notes_none fs)
     by false rest = rest
 
 pub sweep_adds : (old new : Device) → Sweeps old new → AddsNotes old.parts.history new.parts.history
-sweep_adds old new s =
-    (notes_of old.parts.flights.future.flights s.parts.flights.reads, s.parts.flights.notes,
-    notes_none (ended_by old.parts.flights.future.flights s.parts.flights.reads))
+sweep_adds old new s = (
+  notes_of old.parts.flights.future.flights s.parts.flights.reads,
+  s.parts.flights.notes,
+  notes_none (ended_by old.parts.flights.future.flights s.parts.flights.reads),
+)
 
 -- one step adds the call between the notes of its two sweeps
 pub step_adds : (actor : ℕ) (call : Call) (with : Handed) (r : Reply) (out : Handed) (old new : Device) → HasStepped actor call with r out old new
@@ -66,7 +66,7 @@ step_adds actor call with r out old new s =
     }
 
 -- what was told stays told
-tells_through : (one two three : Device) → TellsOn one two → TellsOn two three → TellsOn one three
+pub tells_through : (one two three : Device) → TellsOn one two → TellsOn two three → TellsOn one three
 tells_through one two three first then before is = then before (first before is)
 
 pub step_tells : (actor : ℕ) (call : Call) (with : Handed) (r : Reply) (out : Handed) (old new : Device) → HasStepped actor call with r out old new → TellsOn old new
@@ -155,3 +155,6 @@ given_stays old new shared tells limit =
 pub nothing_told : (d : Device) (first : List Notice) → d.parts.history ≡ [] → d.told ≡ first → d.told ≡ first ++ told d.parts.history
 unfolding told told_from
 nothing_told d first empty is = is ∙ sym (append-nil first) ∙ ap (λ h. first ++ told h) (sym empty)
+
+pub told_is : (d : Device) → IsShared d → d.told ≡ told_first d ++ told d.parts.history
+told_is d shared = shared.told ∙ ap (λ first. first ++ told d.parts.history) (sym (first_is d shared.first shared.told))

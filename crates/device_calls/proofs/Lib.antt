@@ -1,3 +1,7 @@
 -- Lemmas of this crate.
+pub mod CloseFacts
+pub mod FrameFacts
 pub mod HoldFacts
 pub mod PassFacts
+pub mod ReplyFacts
+pub mod WorkFacts

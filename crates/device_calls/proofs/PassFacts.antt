@@ -1,22 +1,22 @@
 -- A hold of the turn, as the pass tells it that made it.
 use Rattle.std.proofs.Common.{◌≡◌, ◌∙◌, ◌++◌, ◌∷◌, ◌+◌, [], ℕ, List, Result, Ok, Err, length, length-append, refl, sym, ap, subst, arith, append_assoc}
-use Rattle.std.specs.Prelude.{IfErr, IfOk, OnErr, Some}
-use Rattle.std.specs.Option.{option_map_or}
+use Rattle.std.specs.Prelude.{IfErr, IfOk, OnErr}
 use Rattle.std.proofs.lemmas.List.{append-nil}
 use Rattle.dev_types.specs.declared.refusals.Refused.{Refused}
 use Rattle.device_parts.specs.declared.handed.Handed.{Handed}
 use Rattle.seq_model.specs.Contents.{entered}
 use Rattle.seq_model.specs.Histories.{History, caller_of}
+use Rattle.seq_model.specs.Legal.{Legal}
 use Rattle.seq_model.specs.Steps.{after}
 use Rattle.seq_model.specs.declared.calls.Call.{Call}
 use Rattle.seq_model.specs.declared.calls.Entry.{Entry}
 use Rattle.seq_model.specs.declared.calls.Entry.TheVariants.{Called}
 use Rattle.seq_model.specs.declared.calls.Reply.{Reply}
 use Rattle.turn_lock.specs.Histories.{AddsOneCall, Extends, new_places}
-use Rattle.turn_lock.specs.Passes.{caller_number, fixed, mine, seen}
-use Rattle.turn_lock.proofs.PlaceLaws.{adds-call, adds-notes, new_places-call, new_places-notes}
+use Rattle.turn_lock.specs.Passes.{caller_number, fixed, mine, seen, share}
+use Rattle.turn_lock.proofs.PlaceLaws.{adds-call, adds-notes, extends-later, new_places-call, new_places-notes}
 use Rattle.device_calls.specs.Holds.{AddsCall, AddsNotes, IsCause}
-use Rattle.device_calls.specs.Passes.{DevicePass, HasCalled, HasDeclined, limit_of}
+use Rattle.device_calls.specs.Passes.{DevicePass, HasCalled, HasDeclined, Sees, limit_of}
 
 -- one call of its caller at most
 pub adds_one : (made : Result (Reply × Handed) (Refused × Call × Handed)) (actor : ℕ) (call : Call) (with : Handed) (old new : History)
@@ -71,3 +71,29 @@ made_declined (Err e) call limit old new entry now limits sees grown adds cause 
 pub grown_by : (was had now_mine : List ℕ) (entry old now : History) → now_mine ≡ had ++ new_places caller_of entry now → had ≡ was → entry ≡ old
     → now_mine ≡ was ++ new_places caller_of old now
 grown_by was had now_mine entry old now grown same begins = grown ∙ ap (λ l. l ++ new_places caller_of entry now) same ∙ ap (λ h. was ++ new_places caller_of h now) begins
+
+-- a hold that adds notes
+pub notes_seen : (old new : DevicePass) (entry now : History) → caller_number new ≡ caller_number old → share new ≡ share old → fixed new ≡ fixed old
+    → Extends (seen old) entry → seen new ≡ now → AddsNotes entry now → Legal now → Sees old new
+notes_seen old new entry now caller shares given later sees adds legal = record {
+  caller = caller;
+  share = shares;
+  fixed = given;
+  later = subst (Extends (seen old)) (sym sees) (extends-later (seen old) entry now later (adds.0, adds.1));
+  legal = subst Legal (sym sees) legal;
+}
+
+pub notes_mine : (old new : DevicePass) (entry now : History) → mine new ≡ mine old ++ new_places caller_of entry now → AddsNotes entry now → mine new ≡ mine old
+notes_mine old new entry now grown adds =
+    grown ∙ ap (λ h. mine old ++ new_places caller_of entry h) adds.1 ∙ ap (λ l. mine old ++ l) (new_places-notes caller_of entry adds.0 adds.2) ∙ append-nil (mine old)
+
+-- after holds before it
+pub sees_through : (one two three : DevicePass) → caller_number two ≡ caller_number one → share two ≡ share one → fixed two ≡ fixed one → Extends (seen one) (seen two)
+    → Sees two three → Sees one three
+sees_through one two three caller shares given later then = record {
+  caller = then.caller ∙ caller;
+  share = then.share ∙ shares;
+  fixed = then.fixed ∙ given;
+  later = extends-later (seen one) (seen two) (seen three) later then.later;
+  legal = then.legal;
+}

@@ -1,5 +1,5 @@
 -- What one hold of the turn adds to the history.
-use Rattle.std.specs.Prelude.{◌≡◌, ℕ, ◌+◌, List, [], ◌∷◌, ◌++◌, Some, length, if◌then◌else◌}
+use Rattle.std.specs.Prelude.{◌≡◌, ℕ, ◌+◌, [], ◌∷◌, ◌++◌, Some, length, if◌then◌else◌}
 use Rattle.std.specs.Option.{option_map}
 use Rattle.answered_calls.specs.Tells.{with_given}
 use Rattle.dev_types.specs.declared.refusals.Refused.{Refused}

@@ -1,4 +1,6 @@
 -- What the clauses of this crate cite.
 pub mod Holds
 pub mod Passes
+pub mod Replies
 pub mod Sharing
+pub mod Working

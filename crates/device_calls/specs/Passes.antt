@@ -1,6 +1,7 @@
 -- What a call does to the pass with which it is made.
 use Rattle.std.specs.Prelude.{◌≡◌, ℕ, ◌+◌, List, [], ◌∷◌, ◌++◌, length}
 use Rattle.std.specs.Option.{option_map_or}
+use Rattle.dev_types.specs.declared.notices.Notice.{Notice}
 use Rattle.dev_types.specs.declared.refusals.Refused.{Refused}
 use Rattle.device_calls.specs.Holds.{AreNotes, IsCause, IsReplied}
 use Rattle.device_calls.specs.Sharing.{Given}
@@ -24,6 +25,10 @@ DevicePass = Pass Entry Given
 -- the length of the journal of the pass's device
 abbrev pub limit_of : DevicePass → ℕ
 limit_of p = option_map_or (λ f. f.limit) (fixed p) 0
+
+-- what the client of the pass's device was told before it began
+abbrev pub notices_of : DevicePass → List Notice
+notices_of p = option_map_or (λ f. f.notices) (fixed p) []
 
 -- The pass keeps its caller number, its share and what it knows of the device, and has seen more of the history,
 -- which is legal

@@ -58,11 +58,7 @@ impl<C: Client> SharedState<C> {
     ///
     /// # Errors
     /// `NoMemory`; the client comes back.
-    pub(crate) fn new(
-        alloc: Global,
-        client: C,
-        limit: u32,
-    ) -> Result<SharedState<C>, (NoMemory, C)>
+    pub(crate) fn new(alloc: Global, client: C, limit: u32) -> Result<SharedState<C>, (NoMemory, C)>
         requires some { 2 ≤ limit }
         requires few { limit ≤ 2 ^ 20 }
         ensures history { IfOk result (λ s. s.parts.history ≡ []) }

@@ -1,10 +1,10 @@
-use Rattle.std.proofs.Common.{◌≡◌, ◌∙◌, ◌++◌, ℕ, Option, ap, subst, sym}
+use Rattle.std.proofs.Common.{◌∙◌, Option, ap, subst, sym}
 use Rattle.std.specs.Option.{option_map_or}
-use Rattle.seq_model.specs.Histories.{History, caller_of}
+use Rattle.seq_model.specs.Histories.{caller_of}
 use Rattle.seq_model.specs.Legal.{Legal}
 use Rattle.seq_model.specs.Steps.{after}
 use Rattle.turn_lock.proofs.PlaceLaws.{extends-later}
-use Rattle.turn_lock.specs.Histories.{AddsOneCall, Extends, new_places}
+use Rattle.turn_lock.specs.Histories.{AddsOneCall, Extends}
 use Rattle.turn_lock.specs.Passes.{caller_number, mine, seen}
 use Rattle.device_calls.specs.Sharing.{Given}
 use Rattle.device_calls.proofs.PassFacts.{adds_one, grown_by, made_called, made_declined}

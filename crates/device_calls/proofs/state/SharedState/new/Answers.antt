@@ -1,4 +1,4 @@
-use Rattle.std.proofs.Common.{◌≡◌, ◌∙◌, arith, sym, subst}
+use Rattle.std.proofs.Common.{arith, sym, subst}
 use Rattle.frame_future.specs.Future.{AreHome}
 use Rattle.device_calls.proofs.HoldFacts.{first_is, nothing_told}
 use Rattle.device_calls.proofs.state.SharedState.new.Goals as goal
