@@ -30,8 +30,8 @@ pub fn solo_follows()
 {}
 
 /// A journal of 1048576 entries has room for any call behind each beginning of a legal history that
-/// follows a trace which was read; so it is not full before any call of the trace, on one thread or on
-/// many.
+/// follows a trace which was read; so it is not full before any call of the trace, on one thread or
+/// on many.
 #[tactic(auto, using(crate::proofs::TracePlaces::follows_has_room, crate::proofs::TracePlaces::solo_has_room))]
 pub fn journals_of_traces_have_room()
     ensures follows { (bytes : List ℕ) (trace : Trace) (before rest : History) (call : Call)
@@ -46,8 +46,8 @@ pub fn journals_of_traces_have_room()
 {}
 
 /// In its replay on one thread a call of a trace takes at most two places of a journal, with that of
-/// what it may owe, and the end of a loan one; so callers and phases take no more than their calls, and
-/// a trace which was read takes at most 786432.
+/// what it may owe, and the end of a loan one; so callers and phases take no more than their calls,
+/// and a trace which was read takes at most 786432.
 #[tactic(auto, using(crate::proofs::SoloPlaces::takes_places, crate::proofs::SoloPlaces::leaves_unmaps, crate::proofs::SoloPlaces::caller_places, crate::proofs::SoloPlaces::phase_places, crate::proofs::TracePlaces::few_places))]
 pub fn replays_take_few_places()
     ensures call { (phase caller : ℕ) (r : Replay) (c : TraceCall)
