@@ -5,8 +5,8 @@ ghost use Rattle.replay_core.specs.declared.bindings.Binding.{Binding};
 use crate::bindings::Binding;
 use std::marker::{Model, PhantomData};
 
-/// Bindings in the order in which they were made, for contracts alone (`list`): they have no bytes, and
-/// nothing reads them when the program runs, which finds bindings by their labels.
+/// Bindings in the order in which they were made, for contracts alone (`list`): they have no bytes,
+/// and nothing reads them when the program runs, which finds bindings by their labels.
 pub(crate) struct BindingOrder {
     marker: PhantomData<()>,
     pub(crate) ghost list: { List Binding },

@@ -29,15 +29,16 @@ struct BindingList {
     bindings: Vec<Binding>,
 }
 
-/// What labels were bound to. Contracts see all bindings in the order in which they were made; a label
-/// is looked up in an ordered map.
+/// What labels were bound to. Contracts see all bindings in the order in which they were made; a
+/// label is looked up in an ordered map.
 #[derive(Drop)]
 pub struct Bindings {
     by_label: BTreeMap<Name, BindingList>,
     order: BindingOrder,
 }
 
-/// What labels stand for to a caller in a phase: it knows what was bound in earlier phases, and what it bound itself.
+/// What labels stand for to a caller in a phase: it knows what was bound in earlier phases, and what
+/// it bound itself.
 #[derive(Drop)]
 pub struct Labels<'a> {
     pub bound: &'a Bindings,
@@ -112,7 +113,8 @@ impl Bindings {
         }
     }
 
-    /// The object that a label stands for to a caller in a phase; handle 0 where it does not know it.
+    /// The object that a label stands for to a caller in a phase; handle 0 where it does not know
+    /// it.
     pub fn handle(&self, phase: u64, caller: u32, label: &Name) -> Handle
         ensures { result ≡ handle_of self.now phase caller label.now }
     {

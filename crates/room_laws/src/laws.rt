@@ -34,13 +34,14 @@ pub fn flights_are_counted()
         → length (flights (after history).state) ≡ length tickets }
 {}
 
-/// What a history owes is bounded by its calls. Its entries, the notes of its flights and the unmaps of
-/// its loans take at most two places of a journal for each call, of which an unmap takes one, and one
-/// for the close. An unmap that ends a loan gives back the place that the loan kept for it.
+/// What a history owes is bounded by its calls. Its entries, the notes of its flights and the unmaps
+/// of its loans take at most two places of a journal for each call but an unmap, which takes one, and
+/// one for the close. An unmap that ends a loan gives back the place that the loan kept for it.
 pub fn places_are_counted()
     ensures entries { (history : History)
         → Legal history
-        → length history + length (flights (after history).state) + loans_out (after history).state + sum_by takes_back history
+        → length history + length (flights (after history).state) + loans_out (after history).state
+        + sum_by takes_back history
         ≤ sum_by most_places history }
     ensures calls { (history : History)
         → Legal history
