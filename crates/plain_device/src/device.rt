@@ -12,7 +12,7 @@ ghost use Rattle.seq_model.specs.Legal.{Legal, is_content_sound, is_flying};
 ghost use Rattle.seq_model.specs.Life.{has};
 ghost use Rattle.seq_model.specs.Refusals.{phase_at};
 ghost use Rattle.seq_model.specs.State.{ticket_in};
-ghost use Rattle.seq_model.specs.Steps.{next_place, start, step};
+ghost use Rattle.seq_model.specs.Steps.{after, next_place, start, step};
 ghost use Rattle.seq_model.specs.Told.{told, told_by};
 ghost use Rattle.seq_model.specs.declared.calls.Entry.TheVariants.{Called, Finished, Left};
 
@@ -164,6 +164,7 @@ impl<C: Client> Device<C> {
         ensures value { IfOk result (λ c. c ≡ entered (past_of self.now) call) }
         ensures err { IfErr result (λ e. e.1 ≡ call) }
         ensures legal { Legal (past_of self.now).seen }
+        ensures led { past_of self.now ≡ after (past_of self.now).seen }
     {
         self.record.is_legal();
         entered(&self.record, alloc, call)

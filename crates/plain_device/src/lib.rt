@@ -3,5 +3,3 @@
 
 pub mod device;
 mod steps;
-#[cfg(test)]
-mod tests;
