@@ -11,14 +11,7 @@ use Rattle.seq_model.specs.declared.calls.Entry.TheVariants.{Closed}
 use Rattle.turn_lock.specs.Histories.{callers, new_places, places}
 use Rattle.turn_lock.proofs.PlaceLaws.{new_places-notes, places-extended}
 use Rattle.device_calls.specs.Holds.{AddsNotes}
-use Rattle.device_calls.proofs.HoldFacts.{sweep_adds}
-
-pub notes_through : (one two three : History) → AddsNotes one two → AddsNotes two three → AddsNotes one three
-notes_through one two three first then = (
-  first.0 ++ then.0,
-  then.1 ∙ ap (λ h. h ++ then.0) first.1 ∙ append_assoc one first.0 then.0,
-  filter_map-append caller_of first.0 then.0 ∙ ap (λ l. l ++ callers caller_of then.0) first.2 ∙ then.2,
-)
+use Rattle.device_calls.proofs.HoldFacts.{notes_through, sweep_adds, tells_through}
 
 halted_history : (old new : Device) (h : Halts old new) → h.stopped.parts.history ≡ h.swept.parts.history
 halted_history old new h = ap (λ (d : Device). d.parts.history) h.rest

@@ -7,6 +7,7 @@ mod fixed;
 mod frames;
 mod objects;
 mod queries;
+mod ready;
 mod state;
 mod work;
 
