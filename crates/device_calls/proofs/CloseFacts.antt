@@ -1,17 +1,16 @@
 -- What the end of a device adds to its history, and what it tells.
-use Rattle.std.proofs.Common.{◌≡◌, ◌∙◌, ◌++◌, ◌∷◌, [], refl, sym, ap, subst, append_assoc}
+use Rattle.std.proofs.Common.{◌≡◌, ◌∙◌, ◌++◌, ◌∷◌, [], refl, sym, ap, subst}
 use Rattle.std.proofs.lemmas.List.{append-nil}
-use Rattle.std.proofs.lemmas.List.Elements.{filter_map-append}
 use Rattle.device_core.specs.Finishing.{Halts}
 use Rattle.device_core.specs.States.{Device}
 use Rattle.device_core.specs.Sweeping.{TellsOn}
 use Rattle.seq_model.specs.Histories.{History, caller_of}
 use Rattle.seq_model.specs.Told.{told}
 use Rattle.seq_model.specs.declared.calls.Entry.TheVariants.{Closed}
-use Rattle.turn_lock.specs.Histories.{callers, new_places, places}
+use Rattle.turn_lock.specs.Histories.{new_places, places}
 use Rattle.turn_lock.proofs.PlaceLaws.{new_places-notes, places-extended}
 use Rattle.device_calls.specs.Holds.{AddsNotes}
-use Rattle.device_calls.proofs.HoldFacts.{notes_through, sweep_adds, tells_through}
+use Rattle.device_calls.proofs.HoldFacts.{notes_through, sweep_adds}
 
 halted_history : (old new : Device) (h : Halts old new) → h.stopped.parts.history ≡ h.swept.parts.history
 halted_history old new h = ap (λ (d : Device). d.parts.history) h.rest

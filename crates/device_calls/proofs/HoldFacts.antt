@@ -28,7 +28,7 @@ use Rattle.device_calls.specs.Sharing.{IsShared, given_of, told_first}
 use Rattle.device_calls.specs.Holds.{AddsCall, AddsNotes, AreNotes, IsCause, IsReplied}
 
 -- nobody calls a note
-notes_none : (fs : List Flying) → AreNotes (map note_of fs)
+pub notes_none : (fs : List Flying) → AreNotes (map note_of fs)
 notes_none [] = refl
 notes_none (f ∷ fs) = by (is_stopped f) (notes_none fs)
   where
@@ -36,7 +36,7 @@ notes_none (f ∷ fs) = by (is_stopped f) (notes_none fs)
     by true rest = rest
     by false rest = rest
 
-pub sweep_adds : (old new : Device) → Sweeps old new → AddsNotes old.parts.history new.parts.history
+unfoldable pub sweep_adds : (old new : Device) → Sweeps old new → AddsNotes old.parts.history new.parts.history
 sweep_adds old new s = (
   notes_of old.parts.flights.future.flights s.parts.flights.reads,
   s.parts.flights.notes,
@@ -44,7 +44,7 @@ sweep_adds old new s = (
 )
 
 -- one step adds the call between the notes of its two sweeps
-pub step_adds : (actor : ℕ) (call : Call) (with : Handed) (r : Reply) (out : Handed) (old new : Device) → HasStepped actor call with r out old new
+unfoldable pub step_adds : (actor : ℕ) (call : Call) (with : Handed) (r : Reply) (out : Handed) (old new : Device) → HasStepped actor call with r out old new
     → AddsCall actor call with r out old.parts.history new.parts.history
 step_adds actor call with r out old new s =
     let first = sweep_adds old s.settled s.first in

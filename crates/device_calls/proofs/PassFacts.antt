@@ -27,7 +27,7 @@ adds_one (Ok r) actor call with old new ok err =
 adds_one (Err e) actor call with old new ok err = subst (λ h. AddsOneCall caller_of actor old h) (sym err.1) (adds-notes caller_of actor old err.0 err.2)
 
 -- what the pass has seen then ends with the call and notes, and has its place
-pub has_called : (call : Call) (with : Handed) (r : Reply) (out : Handed) (old new : DevicePass) (entry now : History)
+unfoldable pub has_called : (call : Call) (with : Handed) (r : Reply) (out : Handed) (old new : DevicePass) (entry now : History)
     → Extends (seen old) entry → seen new ≡ now → mine new ≡ mine old ++ new_places caller_of entry now
     → AddsCall (caller_number old) call with r out entry now → HasCalled call with r out old new
 has_called call with r out old new entry now later sees grown adds =

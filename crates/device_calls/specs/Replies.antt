@@ -7,7 +7,7 @@ use Rattle.dev_types.specs.declared.refusals.Refused.TheVariants.{NoMemory}
 use Rattle.device_parts.specs.declared.handed.Handed.{Handed}
 use Rattle.device_parts.specs.declared.handed.Handed.TheVariants as handed
 use Rattle.seq_model.specs.declared.calls.Call.{Call}
-use Rattle.seq_model.specs.declared.calls.Call.TheVariants.{Commit, DiscardFrame, FrameReady, MapArray, MapFrame, MapParameterArray, Release, RenderFrame, Retain, SetParameter, UnmapArray, UnmapFrame, UnmapParameterArray, UnsetAll, UnsetParameter}
+use Rattle.seq_model.specs.declared.calls.Call.TheVariants.{Commit, DiscardFrame, MapArray, MapFrame, MapParameterArray, Release, RenderFrame, Retain, SetParameter, UnmapArray, UnmapFrame, UnmapParameterArray, UnsetAll, UnsetParameter}
 use Rattle.seq_model.specs.declared.calls.Reply.{Reply}
 use Rattle.seq_model.specs.declared.calls.Reply.TheVariants as reply
 use Rattle.turn_lock.specs.Passes.{mine}

@@ -8,6 +8,7 @@ mod frames;
 mod objects;
 mod queries;
 mod ready;
+mod renders;
 mod state;
 mod work;
 

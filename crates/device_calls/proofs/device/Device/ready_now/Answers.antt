@@ -1,9 +1,9 @@
-use Rattle.std.proofs.Common.{◌≡◌, ◌∙◌, ◌++◌, Option, ap, subst, sym}
+use Rattle.std.proofs.Common.{◌∙◌, Option, ap, subst, sym}
 use Rattle.std.specs.Option.{option_map_or}
 use Rattle.device_parts.specs.declared.handed.Handed.TheVariants as hand
 use Rattle.seq_model.specs.Histories.{caller_of}
 use Rattle.seq_model.specs.declared.calls.Call.TheVariants.{FrameReady}
-use Rattle.turn_lock.specs.Histories.{AddsOneCall, new_places}
+use Rattle.turn_lock.specs.Histories.{AddsOneCall}
 use Rattle.turn_lock.specs.Passes.{caller_number, mine}
 use Rattle.device_calls.specs.Sharing.{Given}
 use Rattle.device_calls.proofs.PassFacts.{call_seen, grown_by, made_called, made_declined, notes_mine, some_adds}

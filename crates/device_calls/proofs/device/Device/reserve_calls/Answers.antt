@@ -1,4 +1,4 @@
-use Rattle.std.proofs.Common.{◌≡◌, ◌∙◌, [], refl, subst, sym}
+use Rattle.std.proofs.Common.{◌∙◌, [], refl, subst, sym}
 use Rattle.std.proofs.lemmas.List.{append-nil}
 use Rattle.seq_model.specs.Histories.{caller_of}
 use Rattle.turn_lock.proofs.PlaceLaws.{adds-notes}
