@@ -1,24 +1,16 @@
 -- What the end of a device adds to its history, and what it tells.
-use Rattle.std.proofs.Common.{◌≡◌, ◌∙◌, ◌++◌, ◌∷◌, [], refl, sym, ap, subst, append_assoc}
+use Rattle.std.proofs.Common.{◌≡◌, ◌∙◌, ◌++◌, ◌∷◌, [], refl, sym, ap, subst}
 use Rattle.std.proofs.lemmas.List.{append-nil}
-use Rattle.std.proofs.lemmas.List.Elements.{filter_map-append}
 use Rattle.device_core.specs.Finishing.{Halts}
 use Rattle.device_core.specs.States.{Device}
 use Rattle.device_core.specs.Sweeping.{TellsOn}
 use Rattle.seq_model.specs.Histories.{History, caller_of}
 use Rattle.seq_model.specs.Told.{told}
 use Rattle.seq_model.specs.declared.calls.Entry.TheVariants.{Closed}
-use Rattle.turn_lock.specs.Histories.{callers, new_places, places}
+use Rattle.turn_lock.specs.Histories.{new_places, places}
 use Rattle.turn_lock.proofs.PlaceLaws.{new_places-notes, places-extended}
 use Rattle.device_calls.specs.Holds.{AddsNotes}
-use Rattle.device_calls.proofs.HoldFacts.{sweep_adds}
-
-pub notes_through : (one two three : History) → AddsNotes one two → AddsNotes two three → AddsNotes one three
-notes_through one two three first then = (
-  first.0 ++ then.0,
-  then.1 ∙ ap (λ h. h ++ then.0) first.1 ∙ append_assoc one first.0 then.0,
-  filter_map-append caller_of first.0 then.0 ∙ ap (λ l. l ++ callers caller_of then.0) first.2 ∙ then.2,
-)
+use Rattle.device_calls.proofs.HoldFacts.{notes_through, sweep_adds}
 
 halted_history : (old new : Device) (h : Halts old new) → h.stopped.parts.history ≡ h.swept.parts.history
 halted_history old new h = ap (λ (d : Device). d.parts.history) h.rest

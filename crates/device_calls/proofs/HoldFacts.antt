@@ -3,6 +3,8 @@ use Rattle.std.proofs.Common.{◌≡◌, ◌∙◌, ◌-◌, ◌++◌, ◌∷◌
 use Rattle.std.specs.Prelude.{IfErr, IfOk, OnErr}
 use Rattle.std.proofs.Math.Seq.{take-append_seam}
 use Rattle.std.proofs.lemmas.List.{append-nil}
+use Rattle.std.proofs.lemmas.List.Elements.{filter_map-append}
+use Rattle.turn_lock.specs.Histories.{callers}
 use Rattle.dev_types.specs.declared.notices.Notice.{Notice}
 use Rattle.dev_types.specs.declared.refusals.Refused.{Refused}
 use Rattle.flight_books.specs.Sweeps.{note, note_of, notes_of}
@@ -15,16 +17,18 @@ use Rattle.device_core.specs.States.{Device}
 use Rattle.device_core.specs.Stepping.{HasDeclined, HasStepped}
 use Rattle.device_core.specs.Sweeping.{Sweeps, TellsOn}
 use Rattle.seq_model.specs.Contents.{entered}
+use Rattle.seq_model.specs.Histories.{History, caller_of}
 use Rattle.seq_model.specs.Steps.{after}
 use Rattle.seq_model.specs.Told.{source_of, told, told_from}
 use Rattle.seq_model.specs.declared.calls.Call.{Call}
+use Rattle.seq_model.specs.declared.calls.Entry.{Entry}
 use Rattle.seq_model.specs.declared.calls.Entry.TheVariants.{Called}
 use Rattle.seq_model.specs.declared.calls.Reply.{Reply}
 use Rattle.device_calls.specs.Sharing.{IsShared, given_of, told_first}
 use Rattle.device_calls.specs.Holds.{AddsCall, AddsNotes, AreNotes, IsCause, IsReplied}
 
 -- nobody calls a note
-notes_none : (fs : List Flying) → AreNotes (map note_of fs)
+pub notes_none : (fs : List Flying) → AreNotes (map note_of fs)
 notes_none [] = refl
 notes_none (f ∷ fs) = by (is_stopped f) (notes_none fs)
   where
@@ -32,7 +36,7 @@ notes_none (f ∷ fs) = by (is_stopped f) (notes_none fs)
     by true rest = rest
     by false rest = rest
 
-pub sweep_adds : (old new : Device) → Sweeps old new → AddsNotes old.parts.history new.parts.history
+unfoldable pub sweep_adds : (old new : Device) → Sweeps old new → AddsNotes old.parts.history new.parts.history
 sweep_adds old new s = (
   notes_of old.parts.flights.future.flights s.parts.flights.reads,
   s.parts.flights.notes,
@@ -40,7 +44,7 @@ sweep_adds old new s = (
 )
 
 -- one step adds the call between the notes of its two sweeps
-pub step_adds : (actor : ℕ) (call : Call) (with : Handed) (r : Reply) (out : Handed) (old new : Device) → HasStepped actor call with r out old new
+unfoldable pub step_adds : (actor : ℕ) (call : Call) (with : Handed) (r : Reply) (out : Handed) (old new : Device) → HasStepped actor call with r out old new
     → AddsCall actor call with r out old.parts.history new.parts.history
 step_adds actor call with r out old new s =
     let first = sweep_adds old s.settled s.first in
@@ -158,3 +162,37 @@ nothing_told d first empty is = is ∙ sym (append-nil first) ∙ ap (λ h. firs
 
 pub told_is : (d : Device) → IsShared d → d.told ≡ told_first d ++ told d.parts.history
 told_is d shared = shared.told ∙ ap (λ first. first ++ told d.parts.history) (sym (first_is d shared.first shared.told))
+
+-- notes behind notes
+pub notes_through : (one two three : History) → AddsNotes one two → AddsNotes two three → AddsNotes one three
+notes_through one two three first then = (
+  first.0 ++ then.0,
+  then.1 ∙ ap (λ h. h ++ then.0) first.1 ∙ append_assoc one first.0 then.0,
+  filter_map-append caller_of first.0 then.0 ∙ ap (λ l. l ++ callers caller_of then.0) first.2 ∙ then.2,
+)
+
+-- a call behind notes
+pub adds_behind : (actor : ℕ) (call : Call) (with : Handed) (r : Reply) (out : Handed) (one two three : History) → AddsNotes one two
+    → AddsCall actor call with r out two three → AddsCall actor call with r out one three
+adds_behind actor call with r out one two three notes adds =
+    let e : History → Entry = λ h. Called actor (entered (after h) call) r in
+    let behind : two ++ adds.first ≡ one ++ (notes.0 ++ adds.first) = ap (λ h. h ++ adds.first) notes.1 ∙ append_assoc one notes.0 adds.first in
+    record {
+      first = notes.0 ++ adds.first;
+      last = adds.last;
+      noted_first = filter_map-append caller_of notes.0 adds.first ∙ ap (λ l. l ++ callers caller_of adds.first) notes.2 ∙ adds.noted_first;
+      noted_last = adds.noted_last;
+      is = adds.is ∙ sym (append_assoc two adds.first (e (two ++ adds.first) ∷ adds.last)) ∙ ap (λ h. h ++ e h ∷ adds.last) behind
+          ∙ append_assoc one (notes.0 ++ adds.first) (e (one ++ (notes.0 ++ adds.first)) ∷ adds.last);
+      reply = subst (IsReplied call with r out) behind adds.reply;
+    }
+
+-- whatever a step behind notes answers
+pub made_behind : (made : Result (Reply × Handed) (Refused × Call × Handed)) (actor : ℕ) (call : Call) (with : Handed) (one two three : History) → AddsNotes one two
+    → IfOk made (λ r. AddsCall actor call with r.0 r.1 two three) → IfOk made (λ r. AddsCall actor call with r.0 r.1 one three)
+made_behind (Ok r) actor call with one two three notes adds = adds_behind actor call with r.0 r.1 one two three notes adds
+made_behind (Err e) actor call with one two three notes adds = tt
+
+pub noted_behind : (made : Result (Reply × Handed) (Refused × Call × Handed)) (one two three : History) → AddsNotes one two → OnErr made (AddsNotes two three) → OnErr made (AddsNotes one three)
+noted_behind (Ok r) one two three notes adds = tt
+noted_behind (Err e) one two three notes adds = notes_through one two three notes adds

@@ -3,5 +3,6 @@ pub mod CloseFacts
 pub mod FrameFacts
 pub mod HoldFacts
 pub mod PassFacts
+pub mod RenderFacts
 pub mod ReplyFacts
 pub mod WorkFacts

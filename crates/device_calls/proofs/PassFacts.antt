@@ -1,6 +1,6 @@
 -- A hold of the turn, as the pass tells it that made it.
-use Rattle.std.proofs.Common.{◌≡◌, ◌∙◌, ◌++◌, ◌∷◌, ◌+◌, [], ℕ, List, Result, Ok, Err, length, length-append, refl, sym, ap, subst, arith, append_assoc}
-use Rattle.std.specs.Prelude.{IfErr, IfOk, OnErr}
+use Rattle.std.proofs.Common.{◌≡◌, ◌∙◌, ◌++◌, ◌∷◌, ◌+◌, [], ℕ, List, Option, None, Some, Result, Ok, Err, length, length-append, refl, sym, ap, subst, arith, append_assoc}
+use Rattle.std.specs.Prelude.{IfErr, IfOk, OnErr, IfNone, IfSome}
 use Rattle.std.proofs.lemmas.List.{append-nil}
 use Rattle.dev_types.specs.declared.refusals.Refused.{Refused}
 use Rattle.device_parts.specs.declared.handed.Handed.{Handed}
@@ -27,7 +27,7 @@ adds_one (Ok r) actor call with old new ok err =
 adds_one (Err e) actor call with old new ok err = subst (λ h. AddsOneCall caller_of actor old h) (sym err.1) (adds-notes caller_of actor old err.0 err.2)
 
 -- what the pass has seen then ends with the call and notes, and has its place
-pub has_called : (call : Call) (with : Handed) (r : Reply) (out : Handed) (old new : DevicePass) (entry now : History)
+unfoldable pub has_called : (call : Call) (with : Handed) (r : Reply) (out : Handed) (old new : DevicePass) (entry now : History)
     → Extends (seen old) entry → seen new ≡ now → mine new ≡ mine old ++ new_places caller_of entry now
     → AddsCall (caller_number old) call with r out entry now → HasCalled call with r out old new
 has_called call with r out old new entry now later sees grown adds =
@@ -96,4 +96,22 @@ sees_through one two three caller shares given later then = record {
   fixed = then.fixed ∙ given;
   later = extends-later (seen one) (seen two) (seen three) later then.later;
   legal = then.legal;
+}
+
+-- a hold that may have made no call
+pub some_adds : (made : Option (Result (Reply × Handed) (Refused × Call × Handed))) (actor : ℕ) (call : Call) (with : Handed) (old new : History)
+    → IfSome made (λ made. IfOk made (λ r. AddsCall actor call with r.0 r.1 old new)) → IfSome made (λ made. OnErr made (AddsNotes old new)) → IfNone made (AddsNotes old new)
+    → AddsOneCall caller_of actor old new
+some_adds (Some made) actor call with old new ok err none = adds_one made actor call with old new ok err
+some_adds None actor call with old new ok err none = subst (λ h. AddsOneCall caller_of actor old h) (sym none.1) (adds-notes caller_of actor old none.0 none.2)
+
+-- a hold that adds one call at most
+pub call_seen : (old new : DevicePass) (entry now : History) (actor : ℕ) → caller_number new ≡ caller_number old → share new ≡ share old → fixed new ≡ fixed old
+    → Extends (seen old) entry → seen new ≡ now → AddsOneCall caller_of actor entry now → Legal now → Sees old new
+call_seen old new entry now actor caller shares given later sees adds legal = record {
+  caller = caller;
+  share = shares;
+  fixed = given;
+  later = subst (Extends (seen old)) (sym sees) (extends-later (seen old) entry now later adds.0);
+  legal = subst Legal (sym sees) legal;
 }

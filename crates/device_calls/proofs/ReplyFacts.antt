@@ -1,8 +1,10 @@
 -- How calls with which no loan goes are answered.
-use Rattle.std.proofs.Common.{◌≡◌, ◌∙◌, ◌+◌, ℕ, length, Bool, true, false, List, Option, Some, None, refl, sym, ap, subst, if◌then◌else◌}
+use Rattle.std.proofs.Common.{◌≡◌, ◌∙◌, ◌+◌, inl, inr, Result, Ok, Err, ℕ, length, Bool, true, false, List, Option, Some, None, refl, sym, ap, subst, if◌then◌else◌}
+use Rattle.std.specs.Prelude.{IfErr, IfOk}
 use Rattle.std.specs.Option.{option_and_then, option_map, option_or}
 use Rattle.answered_calls.specs.Tells.{with_given}
 use Rattle.dev_types.specs.declared.answers.ParamInfo.{ParamInfo}
+use Rattle.dev_types.specs.declared.answers.Ready.{Ready}
 use Rattle.dev_types.specs.declared.data_types.DataType.{DataType}
 use Rattle.dev_types.specs.declared.refusals.Refused.{Refused}
 use Rattle.dev_types.specs.declared.refusals.Refused.TheVariants.{InFlight}
@@ -19,19 +21,20 @@ use Rattle.kind_tables.specs.declared.rows.Row.{Row}
 use Rattle.object_steps.specs.Applying.{tells_of_flights}
 use Rattle.object_steps.specs.Carrying.{handed}
 use Rattle.object_steps.specs.declared.array_loans.ArrayLoan.TheVariants as loan
-use Rattle.seq_model.specs.Answers.{answer, granted, info_of, property_of}
+use Rattle.seq_model.specs.Answers.{answer, granted, info_of, property_of, readiness}
 use Rattle.seq_model.specs.Contents.{entered}
 use Rattle.seq_model.specs.Histories.{History}
-use Rattle.seq_model.specs.Refusals.{refusal}
-use Rattle.seq_model.specs.State.{State}
+use Rattle.seq_model.specs.Pictures.{tiles_at}
+use Rattle.seq_model.specs.Refusals.{phase_at, refusal}
+use Rattle.seq_model.specs.State.{Done, Empty, Flight, Phase, State}
 use Rattle.seq_model.specs.Steps.{Past, after}
 use Rattle.seq_model.specs.declared.calls.Call.{Call}
 use Rattle.seq_model.specs.declared.calls.Call.TheVariants.{FrameReady, GetProperty, MapArray, MapFrame, MapParameterArray, NewArray, NewObject, ObjectInfo, ParameterInfo, Subtypes, UnmapArray, UnmapFrame, UnmapParameterArray}
 use Rattle.seq_model.specs.declared.calls.Reply.{Reply}
 use Rattle.seq_model.specs.declared.calls.Reply.TheVariants as reply
 use Rattle.device_calls.specs.Holds.{IsReplied, told_with}
-use Rattle.device_calls.specs.Passes.{DevicePass, HasCalled}
-use Rattle.device_calls.specs.Replies.{HasMade, IsDone, IsLoanless}
+use Rattle.device_calls.specs.Passes.{DevicePass, HasCalled, HasDeclined}
+use Rattle.device_calls.specs.Replies.{HasMade, IsDone, IsLoanless, IsReadiness, IsRefused, ready_in, reply_of_ready, told_ready}
 
 -- what is done or refused is loanless
 pub done_loanless : (call : Call) → IsDone call → IsLoanless call
@@ -44,12 +47,12 @@ done_loanless (UnmapFrame h number) is = absurd is
 done_loanless (FrameReady h wait) is = absurd is
 done_loanless call is = tt
 
--- such a call does not wait, and nothing goes with it
-pub loanless_awake : (call : Call) → IsLoanless call → (past : Past) → IsAwake past call
-loanless_awake (FrameReady h true) is past = let wrong : true ≡ false = is in absurd cc
-loanless_awake (FrameReady h false) is past = tt
-loanless_awake call is past = tt
+-- what is done or refused does not wait
+pub done_awake : (call : Call) → IsDone call → (past : Past) → IsAwake past call
+done_awake (FrameReady h wait) is past = absurd is
+done_awake call is past = tt
 
+-- nothing goes with such a call
 pub loanless_hands : (call : Call) → IsLoanless call → Hands call hand.Nothing
 loanless_hands (UnmapArray h number bytes) is = absurd is
 loanless_hands (UnmapParameterArray h name number bytes) is = absurd is
@@ -193,3 +196,40 @@ parameter_told t subtype name r old new made granting =
     let told = is_granted (ParameterInfo t subtype name) r hand.Nothing made.before tt made.reply granting in
     let found = some_of (λ (row : Row). reply.Info (info_of row)) told.0 (ParameterInfo t subtype name) (option_and_then (λ kind. row_of kind name) (kind_of t subtype)) r (λ row. refl) told.1 in
     (info_of found.0, found.1)
+
+-- a question whether a frame is ready is answered in its form
+readiness_form : (past : Past) (g h : ℕ) (wait : Bool) (phase : Phase) (r : Reply) → option_map (told_with g (FrameReady h wait)) (readiness past wait phase) ≡ Some r → IsReadiness r
+readiness_form past g h wait Empty r told = let none : None ≡ Some r = told in absurd cc
+readiness_form past g h true (Flight t) r told = let none : None ≡ Some r = told in absurd cc
+readiness_form past g h false (Flight t) r told = let same : reply.NotReady g (tiles_at past.seen t) ≡ r = cc in subst IsReadiness same tt
+readiness_form past g h wait (Done t) r told = let same : reply.Ready ≡ r = cc in subst IsReadiness same tt
+
+is_readiness : (h : ℕ) (wait : Bool) (r : Reply) (out : Handed) (old new : DevicePass) → HasCalled (FrameReady h wait) hand.Nothing r out old new → IsReadiness r
+is_readiness h wait (reply.Denied refused) out old new made = tt
+is_readiness h wait r out old new made =
+    let told = granted_reply (FrameReady h wait) hand.Nothing r out made.before (loanless_entered (after made.before) (FrameReady h wait) tt) made.reply (λ refused same. absurd cc) in
+    readiness_form (after made.before) told.0 h wait (phase_at (after made.before) h) r told.1
+
+pub are_readiness : (made : Result (Reply × Handed) (Refused × Call × Handed)) (h : ℕ) (wait : Bool) (old new : DevicePass)
+    → IfOk made (λ r. HasCalled (FrameReady h wait) hand.Nothing r.0 r.1 old new) → IfOk made (λ r. IsReadiness r.0)
+are_readiness (Ok r) h wait old new made = is_readiness h wait r.0 r.1 old new made
+are_readiness (Err e) h wait old new made = tt
+
+-- as it is handed out
+ready_reply : (h : ℕ) (wait : Bool) (r : Reply) (old new : DevicePass) (told : Result Ready Refused) → told ≡ told_ready r → IsReadiness r → HasMade (FrameReady h wait) r old new
+    → IfOk told (λ ready. HasMade (FrameReady h wait) (reply_of_ready ready) old new) × IfErr told (λ e. IsRefused (FrameReady h wait) e old new)
+ready_reply h wait reply.Ready old new told is ready made =
+    subst (λ (x : Result Ready Refused). IfOk x (λ ready. HasMade (FrameReady h wait) (reply_of_ready ready) old new) × IfErr x (λ e. IsRefused (FrameReady h wait) e old new)) (sym is) (made, tt)
+ready_reply h wait (reply.NotReady given of) old new told is ready made =
+    subst (λ (x : Result Ready Refused). IfOk x (λ ready. HasMade (FrameReady h wait) (reply_of_ready ready) old new) × IfErr x (λ e. IsRefused (FrameReady h wait) e old new)) (sym is) (made, tt)
+ready_reply h wait (reply.Denied refused) old new told is ready made =
+    subst (λ (x : Result Ready Refused). IfOk x (λ ready. HasMade (FrameReady h wait) (reply_of_ready ready) old new) × IfErr x (λ e. IsRefused (FrameReady h wait) e old new)) (sym is) (tt, inr made)
+ready_reply h wait r old new told is ready made = absurd ready
+
+pub ready_made : (made : Result (Reply × Handed) (Refused × Call × Handed)) (h : ℕ) (wait : Bool) (old new : DevicePass) (told : Result Ready Refused) → told ≡ ready_in made
+    → IfOk made (λ r. HasCalled (FrameReady h wait) hand.Nothing r.0 r.1 old new) → IfErr made (λ e. HasDeclined (FrameReady h wait) e.0 old new)
+    → IfOk told (λ ready. HasMade (FrameReady h wait) (reply_of_ready ready) old new) × IfErr told (λ e. IsRefused (FrameReady h wait) e old new)
+ready_made (Ok r) h wait old new told is made declined =
+    ready_reply h wait r.0 old new told is (is_readiness h wait r.0 r.1 old new made) (made_of_none (FrameReady h wait) r.0 r.1 old new tt made)
+ready_made (Err e) h wait old new told is made declined =
+    subst (λ (x : Result Ready Refused). IfOk x (λ ready. HasMade (FrameReady h wait) (reply_of_ready ready) old new) × IfErr x (λ e. IsRefused (FrameReady h wait) e old new)) (sym is) (tt, inl declined)

@@ -1,6 +1,7 @@
 -- What the clauses of this crate cite.
 pub mod Holds
 pub mod Passes
+pub mod Rendering
 pub mod Replies
 pub mod Sharing
 pub mod Working

@@ -89,6 +89,29 @@ impl<C: Client> Device<C> {
         self.turn.join(pass, other);
     }
 
+    /// Takes memory for so many calls, whoever makes them.
+    ///
+    /// # Errors
+    /// `NoMemory`.
+    pub fn reserve_calls<R: Wait>(
+        &self,
+        rt: &R,
+        alloc: Global,
+        pass: &mut Pass,
+        n: u32,
+    ) -> Result<(), NoMemory>
+        requires pass { IsPassOf self.now.turn pass.old }
+        requires idle { holding pass.old ≡ false }
+        ensures pass { IsPassOf self.now.turn pass.new × (holding pass.new ≡ false) }
+        ensures sees { Sees pass.old pass.new }
+        ensures mine { mine pass.new ≡ mine pass.old }
+    {
+        let mut held = self.turn.enter(rt, pass);
+        let reserved = held.state.reserve_calls(alloc, n);
+        self.turn.leave(pass, held);
+        reserved
+    }
+
     /// Makes a call that does not wait for a flight, in one hold.
     ///
     /// # Errors

@@ -7,6 +7,8 @@ mod fixed;
 mod frames;
 mod objects;
 mod queries;
+mod ready;
+mod renders;
 mod state;
 mod work;
 

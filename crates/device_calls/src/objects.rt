@@ -1,6 +1,8 @@
 //! Calls with which no loan goes and comes.
 ghost use Rattle.std.specs.Prelude.{◌≡◌, false, IfErr, IfOk, OnOk};
 ghost use Rattle.dev_types.specs.declared.refusals.Refused.{Refused as Refusals};
+ghost use Rattle.device_core.specs.Stepping.{IsAwake};
+ghost use Rattle.seq_model.specs.Steps.{Past};
 ghost use Rattle.seq_model.specs.declared.calls.Call.TheVariants.{Commit, DiscardFrame, NewObject, Release, Retain, SetParameter, UnsetAll, UnsetParameter};
 ghost use Rattle.seq_model.specs.declared.calls.Reply.TheVariants as reply;
 ghost use Rattle.turn_lock.specs.Passes.{IsPassOf, holding};
@@ -29,6 +31,7 @@ impl<C: Client> Device<C> {
         requires pass { IsPassOf self.now.turn pass.old }
         requires idle { holding pass.old ≡ false }
         requires loanless { IsLoanless call }
+        requires awake { (past : Past) → IsAwake past call }
         ensures pass { IsPassOf self.now.turn pass.new × (holding pass.new ≡ false) }
         ensures sees { Sees pass.old pass.new }
         ensures made { IfOk result (λ r. HasMade call r pass.old pass.new) }

@@ -23,6 +23,7 @@ use tile_render::render;
 use world_snapshot::Work;
 
 /// What whoever helps has done.
+#[derive(Drop)]
 pub enum Worked {
     /// One tile of the flight with this ticket was rendered and given, by this seat.
     Gave { ticket: u64, seat: Seat },

@@ -1,8 +1,8 @@
 use Rattle.std.proofs.Common.{sym, subst}
 use Rattle.device_calls.specs.Holds.{AddsNotes}
 use Rattle.device_calls.specs.Sharing.{IsShared, told_first}
-use Rattle.device_calls.proofs.CloseFacts.{close_adds, halts_add, halts_tell, notes_through}
-use Rattle.device_calls.proofs.HoldFacts.{tells_through, told_is}
+use Rattle.device_calls.proofs.CloseFacts.{close_adds, halts_add, halts_tell}
+use Rattle.device_calls.proofs.HoldFacts.{notes_through, tells_through, told_is}
 use Rattle.device_calls.proofs.state.SharedState.close.Goals as goal
 
 pub returns-in-Ok-clause-journal : goal.returns-in-Ok-clause-journal
