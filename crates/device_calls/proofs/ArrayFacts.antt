@@ -1,11 +1,11 @@
 -- How maps of arrays and the ends of their loans are answered.
-use Rattle.std.proofs.Common.{◌≡◌, ◌∙◌, ◌+◌, ◌++◌, ◌∷◌, ℕ, Bool, true, false, List, Option, Some, None, length, refl, sym, ap, subst}
-use Rattle.std.specs.Option.{IsSome, IsSomeAnd, is_some, option_and_then, option_map, option_map_or, option_or}
+use Rattle.std.proofs.Common.{◌≡◌, ◌∙◌, ◌+◌, ℕ, true, List, Option, Some, None, length, refl, sym, ap, subst}
+use Rattle.std.specs.Option.{IsSome, IsSomeAnd, option_and_then, option_map, option_map_or, option_or}
 use Rattle.array_objects.specs.Loans.{Loan}
 use Rattle.dev_types.specs.declared.data_types.DataType.{DataType}
 use Rattle.dev_types.specs.declared.data_types.DataType.TheVariants as ty
 use Rattle.dev_types.specs.declared.refusals.Refused.{Refused}
-use Rattle.device_parts.specs.Makes.{LeavesFrame, array_of, frame_left, frame_of}
+use Rattle.device_parts.specs.Makes.{array_of, frame_of}
 use Rattle.device_parts.specs.Maps.{is_refused}
 use Rattle.device_parts.specs.declared.handed.Handed.{Handed}
 use Rattle.device_parts.specs.declared.handed.Handed.TheVariants as hand
@@ -14,7 +14,6 @@ use Rattle.kind_tables.specs.declared.kinds.Kind.{Kind}
 use Rattle.kind_tables.specs.declared.kinds.Kind.TheVariants.{Array, CameraOrthographic}
 use Rattle.object_steps.specs.Carrying.{handed}
 use Rattle.object_steps.specs.ParameterLoans.{ParameterLoan}
-use Rattle.object_steps.specs.declared.array_loans.ArrayLoan.{ArrayLoan}
 use Rattle.object_steps.specs.declared.array_loans.ArrayLoan.TheVariants as loan
 use Rattle.scene_read.specs.Reading.{lent}
 use Rattle.seq_model.specs.Answers.{answer, granted}
@@ -29,7 +28,6 @@ use Rattle.seq_model.specs.declared.calls.Call.{Call}
 use Rattle.seq_model.specs.declared.calls.Call.TheVariants.{MapArray, MapParameterArray, UnmapArray, UnmapParameterArray}
 use Rattle.seq_model.specs.declared.calls.Reply.{Reply}
 use Rattle.seq_model.specs.declared.calls.Reply.TheVariants as reply
-use Rattle.seq_model.specs.declared.calls.Entry.TheVariants.{Called}
 use Rattle.seq_model.proofs.Afters.{seen_is_history}
 use Rattle.seq_model.proofs.Granted.{AllNone, all_none}
 use Rattle.seq_model.proofs.Prefixes.{prefix_is_legal}
@@ -40,7 +38,7 @@ use Rattle.turn_lock.specs.Passes.{seen}
 use Rattle.device_calls.specs.Holds.{IsReplied, told_with}
 use Rattle.device_calls.specs.Lending.{IsMade, lent_of, param_of}
 use Rattle.device_calls.specs.Passes.{DevicePass, HasCalled}
-use Rattle.device_calls.proofs.FrameFacts.{refused_as, without}
+use Rattle.device_calls.proofs.FrameFacts.{without}
 use Rattle.device_calls.proofs.ReplyFacts.{granted_entered, granted_reply, none_left}
 
 map_entered : (past : Past) (h : ℕ) → entered past (MapArray h) ≡ MapArray h

@@ -1,7 +1,6 @@
-use Rattle.std.proofs.Common.{◌≡◌, ◌∙◌, Result, Ok, Err, Option, Some, None, true, refl, subst, sym, ℕ, List}
+use Rattle.std.proofs.Common.{◌≡◌, ◌∙◌, Result, Ok, Err, Option, Some, None, true, refl, subst, sym}
 use Rattle.std.specs.Prelude.{OnOk}
 use Rattle.std.specs.Option.{is_some}
-use Rattle.array_objects.specs.Loans.{Loan}
 use Rattle.device_parts.specs.declared.handed.Handed.TheVariants as hand
 use Rattle.seq_model.specs.declared.calls.Call.TheVariants.{UnmapArray}
 use Rattle.device_calls.specs.Passes.{HasCalled}
