@@ -35,7 +35,7 @@ unmap_hands place h number (reply.Denied refused) s = refl
 unmap_hands place h number r s = refl
 
 -- what comes out is the loan of a channel, or nothing
-without : (out : Handed) → array_of out ≡ loan.Nothing → None ≡ frame_of out → out ≡ hand.Nothing
+pub without : (out : Handed) → array_of out ≡ loan.Nothing → None ≡ frame_of out → out ≡ hand.Nothing
 without hand.Nothing array no_frame = refl
 without (hand.Frame m) array no_frame = let none : None ≡ Some m = no_frame in absurd cc
 without (hand.Lent l) array no_frame = absurd cc
@@ -56,7 +56,7 @@ map_told h channel r out m old new called is =
     let lends = subst (λ k. LendsChannel (length made.before + 1) k r (Some m)) (map_entered (after made.before) h channel) made.reply.lends in
     subst (λ r. HasCalled (MapFrame h channel) hand.Nothing r (hand.Frame m) old new) lends.0 made
 
-refused_as : (r : Reply) → is_refused r ≡ true → (refused : Refused) × (r ≡ reply.Denied refused)
+pub refused_as : (r : Reply) → is_refused r ≡ true → (refused : Refused) × (r ≡ reply.Denied refused)
 refused_as (reply.Denied refused) is = (refused, refl)
 refused_as r is = absurd cc
 

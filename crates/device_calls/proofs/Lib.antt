@@ -1,4 +1,5 @@
 -- Lemmas of this crate.
+pub mod ArrayFacts
 pub mod CloseFacts
 pub mod FrameFacts
 pub mod HoldFacts

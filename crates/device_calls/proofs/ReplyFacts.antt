@@ -72,7 +72,7 @@ none_handed place (MapArray h) r s is = absurd is
 none_handed place (MapParameterArray h name elem count) r s is = absurd is
 none_handed place call r s is = refl
 
-none_left : (r : Reply) → frame_left r None ≡ None
+pub none_left : (r : Reply) → frame_left r None ≡ None
 none_left (reply.Denied refused) = refl
 none_left r = refl
 
@@ -94,14 +94,14 @@ still_denied true given refused = (refused, refl)
 still_denied false given refused = (refused, refl)
 
 -- a reply that does not refuse is the one that is granted
-pub granted_reply : (call : Call) (with : Handed) (r : Reply) (out : Handed) (before : History) → entered (after before) call ≡ call → IsReplied call with r out before
-    → ((refused : Refused) → r ≡ reply.Denied refused → ⊥) → (given : ℕ) × (option_map (told_with given call) (granted (after before) call) ≡ Some r)
+pub granted_entered : (call : Call) (with : Handed) (r : Reply) (out : Handed) (before : History) → IsReplied call with r out before
+    → ((refused : Refused) → r ≡ reply.Denied refused → ⊥)
+    → (given : ℕ) × (option_map (told_with given call) (granted (after before) (entered (after before) call)) ≡ Some r)
 unfolding answer
-granted_reply call with r out before same replied granting =
-    (replied.given, by (refusal (after before) call) (sym (ap (λ k. option_map (told_with replied.given call) (answer (after before) k)) same) ∙ replied.answered))
+granted_entered call with r out before replied granting = (replied.given, by (refusal (after before) (entered (after before) call)) replied.answered)
   where
-    by : (x : Option Refused) → option_map (told_with replied.given call) (option_or (option_map reply.Denied x) (granted (after before) call)) ≡ Some r
-        → option_map (told_with replied.given call) (granted (after before) call) ≡ Some r
+    by : (x : Option Refused) → option_map (told_with replied.given call) (option_or (option_map reply.Denied x) (granted (after before) (entered (after before) call))) ≡ Some r
+        → option_map (told_with replied.given call) (granted (after before) (entered (after before) call)) ≡ Some r
     by None told = told
     by (Some refused) told =
         let denied = still_denied (tells_of_flights call) replied.given refused in
@@ -110,6 +110,12 @@ granted_reply call with r out before same replied granting =
       where
         some_is : {a : Reply} → Some a ≡ Some r → r ≡ a
         some_is same = cc
+
+pub granted_reply : (call : Call) (with : Handed) (r : Reply) (out : Handed) (before : History) → entered (after before) call ≡ call → IsReplied call with r out before
+    → ((refused : Refused) → r ≡ reply.Denied refused → ⊥) → (given : ℕ) × (option_map (told_with given call) (granted (after before) call) ≡ Some r)
+granted_reply call with r out before same replied granting =
+    let told = granted_entered call with r out before replied granting in
+    (told.0, ap (λ k. option_map (told_with told.0 call) (granted (after before) k)) (sym same) ∙ told.1)
 
 pub is_granted : (call : Call) (r : Reply) (out : Handed) (before : History) → IsLoanless call → IsReplied call hand.Nothing r out before
     → ((refused : Refused) → r ≡ reply.Denied refused → ⊥) → (given : ℕ) × (option_map (told_with given call) (granted (after before) call) ≡ Some r)

@@ -1,8 +1,6 @@
 //! Channels of frames that are mapped and unmapped.
-ghost use Rattle.std.specs.Prelude.{◌≡◌, ◌⊎◌, None, Some, false, true, IfErr, IfOk, OnOk};
-ghost use Rattle.std.specs.Option.{is_some};
-ghost use Rattle.device_parts.specs.Makes.{frame_of};
-ghost use Rattle.device_parts.specs.Maps.{is_refused, told_of};
+ghost use Rattle.std.specs.Prelude.{◌≡◌, ◌⊎◌, false, IfErr, IfOk, OnOk};
+ghost use Rattle.device_parts.specs.Maps.{told_of};
 ghost use Rattle.device_parts.specs.declared.handed.Handed.TheVariants.{Frame, Nothing};
 ghost use Rattle.seq_model.specs.declared.calls.Call.TheVariants.{MapFrame, UnmapFrame};
 ghost use Rattle.seq_model.specs.declared.calls.Reply.TheVariants.{Denied, Done};
@@ -11,65 +9,13 @@ ghost use Rattle.device_calls.specs.Passes.{HasCalled, HasDeclined, Sees};
 ghost use Rattle.device_calls.specs.Replies.{IsRefused};
 
 use crate::device::{Device, Pass};
+use crate::loans::{channel_of, done_or_back, lent_or_refused};
 use dev_types::{Channel, Client, Handle, Refused};
 use device_core::Handed;
 use frame_future::MappedFrame;
 use seq_model::{Call, Reply};
 use std::alloc::Global;
 use std::sync::Wait;
-
-/// The loan of a channel, if this is one; any other is given up.
-fn channel_of(out: Handed) -> Option<MappedFrame>
-    ensures { result ≡ frame_of out }
-{
-    match out {
-        Handed::Nothing => None,
-        Handed::Lent(lent) => {
-            let _bytes = lent.give_up();
-            None
-        }
-        Handed::Param(lent) => {
-            let _bytes = lent.give_up();
-            None
-        }
-        Handed::Frame(frame) => Some(frame),
-    }
-}
-
-/// Why a reply refuses.
-fn refusal_in(reply: Reply) -> Refused
-    requires { is_refused reply ≡ true }
-    ensures { reply ≡ Denied result }
-{
-    match reply {
-        Reply::Denied(refused) => refused,
-        _ => unreachable!(),
-    }
-}
-
-/// What a map of a channel lends, or why it was refused.
-fn lent_or_refused(reply: Reply, lent: Option<MappedFrame>) -> Result<MappedFrame, Refused>
-    requires { lent ≡ None → is_refused reply ≡ true }
-    ensures lent { IfOk result (λ m. lent ≡ Some m) }
-    ensures refused { IfErr result (λ e. (lent ≡ None) × (reply ≡ Denied e)) }
-{
-    match lent {
-        Some(frame) => Ok(frame),
-        None => Err(refusal_in(reply)),
-    }
-}
-
-/// That a channel was given back, or why it was not, with its loan.
-fn done_or_back(reply: Reply, back: Option<MappedFrame>) -> Result<(), (Refused, MappedFrame)>
-    requires { is_some back ≡ true → is_refused reply ≡ true }
-    ensures done { OnOk result (back ≡ None) }
-    ensures back { IfErr result (λ e. (back ≡ Some e.1) × (reply ≡ Denied e.0)) }
-{
-    match back {
-        Some(frame) => Err((refusal_in(reply), frame)),
-        None => Ok(()),
-    }
-}
 
 impl<C: Client> Device<C> {
     /// Maps a channel of a frame (ANARI 1.0 Specification, Frame: mapping): its pixels, under the place

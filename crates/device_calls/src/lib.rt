@@ -1,10 +1,12 @@
 //! The device, which threads share by reference: each call is one hold of the turn.
 #![tactic(auto)]
 
+mod arrays;
 mod close;
 mod device;
 mod fixed;
 mod frames;
+mod loans;
 mod objects;
 mod queries;
 mod ready;
