@@ -11,7 +11,8 @@ use Rattle.replay_core.proofs.ReplayFacts.{replayed_call}
 use Rattle.replay_core.specs.Follows.{CallsNext, Makes, PhaseCaller, after_call, before_call, gone_on, meaning_to}
 use Rattle.replay_core.specs.Labels.{Meaning, binding_of, call_of, handle_of, is_known, label_of}
 use Rattle.replay_core.specs.Loans.{loans_after}
-use Rattle.replay_core.specs.Solo.{Replay, asked_flight, made, ready_for, replayed, stopped_flight, with_note}
+use Rattle.replay_core.specs.Solo.{Replay, made, replayed}
+use Rattle.solo_device.specs.OneThread.{asked_flight, ready_for, stopped_flight, with_note}
 use Rattle.replay_core.specs.declared.bindings.Binding.{Binding}
 use Rattle.seq_model.specs.Contents.{entered}
 use Rattle.seq_model.specs.Endings.{reply_to}

@@ -1,45 +1,36 @@
 -- What the device's calls ask of a replay, and what they give it.
-use Rattle.std.proofs.Common.{ℕ, ◌+◌, ◌*◌, ◌==◌, ◌≡◌, ◌<◌, ◌≤◌, ◌∙◌, ◌||◌, Bool, true, false, not, List, [], ◌∷◌, ◌++◌, Option, Some, None, Result, Ok, Err, IfSome, IsTrue, OnOk, OnErr, drop, fold, get_or, length, refl, sym, ap, subst}
+use Rattle.std.proofs.Common.{ℕ, ◌+◌, ◌==◌, ◌≡◌, ◌<◌, ◌≤◌, ◌∙◌, true, false, List, [], ◌∷◌, ◌++◌, Option, Some, None, Result, Ok, Err, IfOk, IfSome, OnOk, drop, fold, get_or, length, refl, sym, ap, subst}
 use Rattle.std.specs.List.{enumerate_from}
 use Rattle.std.specs.Prelude.{IsSome}
 use Rattle.std.specs.Result.{is_err}
 use Rattle.std.proofs.lemmas.List.{drop_all, drop_more}
-use Rattle.std.specs.Option.{option_map, option_map_or, option_or, unwrap_or}
+use Rattle.std.specs.Option.{option_map_or}
 use Rattle.std.proofs.lemmas.Bool.{eq-eqb, or_right}
 use Rattle.std.proofs.lemmas.List.Folds.{list_any-append}
-use Rattle.dev_types.specs.DataTypes.{byte_size, is_element_type}
-use Rattle.dev_types.specs.declared.data_types.DataType.{DataType}
-use Rattle.dev_types.specs.declared.notices.Notice.{Notice}
-use Rattle.dev_types.specs.declared.refusals.Refused.{Refused}
 use Rattle.seq_model.specs.Endings.{reply_to}
-use Rattle.plain_device.specs.Views.{last_reply}
 use Rattle.replay_core.proofs.Answered.{nothing_asked, still_answered}
 use Rattle.answered_calls.proofs.Cleaned.{entered_is_sound}
-use Rattle.answered_calls.proofs.Strides.{not_less}
-use Rattle.kind_tables.specs.SceneObjects.{Block}
 use Rattle.replay_core.specs.Labels.{Meaning, call_of, call_of_query, handle_of}
-use Rattle.replay_core.specs.Loans.{IsRoomy, is_unmap, mapped_content, unmap_by}
-use Rattle.replay_core.specs.Solo.{Replay, asked_flight, is_done, made, ready_for, replayed, stopped_flight, unmapped, with_call, with_note, with_reply}
-use Rattle.seq_model.proofs.Afters.{after_more}
-use Rattle.seq_model.proofs.Granted.{AllNone, all_none, does_not_apply}
+use Rattle.replay_core.specs.Loans.{is_unmap, mapped_content, unmap_by}
+use Rattle.replay_core.specs.Solo.{Replay, made, replayed, unmapped, with_reply}
+use Rattle.solo_device.specs.Lone.{HeardOn, Lone}
+use Rattle.solo_device.specs.OneThread.{asked_flight, ready_for, stopped_flight, with_call}
 use Rattle.seq_model.proofs.Handles.{changed, step_state, swept_next}
 use Rattle.seq_model.proofs.Keys.{some_passes}
 use Rattle.seq_model.proofs.Sound.{has_head}
-use Rattle.seq_model.proofs.Tellings.{told_more}
 use Rattle.seq_model.specs.Answers.{answer}
 use Rattle.seq_model.specs.Builds.{builds}
 use Rattle.seq_model.specs.Contents.{entered}
-use Rattle.seq_model.specs.Histories.{History}
 use Rattle.seq_model.specs.Legal.{GoesOn, Legal, is_content_sound, is_flying}
 use Rattle.seq_model.specs.Life.{has}
-use Rattle.seq_model.specs.Refusals.{most_bytes, phase_at, refusal, refusals_of}
+use Rattle.seq_model.specs.Refusals.{phase_at}
 use Rattle.seq_model.specs.State.{Object, Phase, Empty, Flight, Done, is_in_flight, object_at, ticket_in}
 use Rattle.seq_model.specs.Steps.{Past, after, change, discard, effect, next_place, start, step}
-use Rattle.seq_model.specs.Told.{told, told_by, told_from}
+use Rattle.seq_model.specs.Told.{told, told_from}
 use Rattle.seq_model.specs.declared.calls.Call.{Call}
-use Rattle.seq_model.specs.declared.calls.Call.TheVariants.{DiscardFrame, FrameReady, MapFrame, MapParameterArray, RenderFrame, UnmapArray, UnmapFrame, UnmapParameterArray}
+use Rattle.seq_model.specs.declared.calls.Call.TheVariants.{DiscardFrame, FrameReady, MapFrame, RenderFrame, UnmapArray, UnmapFrame, UnmapParameterArray}
 use Rattle.seq_model.specs.declared.calls.Entry.{Entry}
-use Rattle.seq_model.specs.declared.calls.Entry.TheVariants.{Called, Left}
+use Rattle.seq_model.specs.declared.calls.Entry.TheVariants.{Called}
 use Rattle.seq_model.specs.declared.calls.Reply.{Reply}
 use Rattle.seq_model.specs.declared.calls.Reply.TheVariants as reply
 use Rattle.trace_text.specs.declared.calls.Query.{Query}
@@ -52,26 +43,6 @@ use Rattle.trace_text.specs.declared.calls.TraceCall.TheVariants as op
 seen_step : (past : Past) (e : Entry) → (step past e).seen ≡ past.seen ++ e ∷ []
 unfolding step
 seen_step past e = refl
-
-pub led_more : (past next : Past) (e : Entry) → past ≡ after past.seen → next ≡ step past e → next ≡ after next.seen
-led_more past next e led is =
-    subst (λ (p : Past). p ≡ after p.seen) (sym is) (ap (λ (p : Past). step p e) led ∙ sym (after_more past.seen e) ∙ ap after (sym (seen_step past e)))
-
-pub heard_more : (past next : Past) (e : Entry) (old new : List Notice) → past ≡ after past.seen → next ≡ step past e → new ≡ old ++ told_by past e → old ≡ told past.seen → new ≡ told next.seen
-heard_more past next e old new led is grown heard =
-    grown ∙ ap (λ ns. ns ++ told_by past e) heard ∙ ap (λ (p : Past). told past.seen ++ told_by p e) led
-    ∙ sym (told_more past.seen e) ∙ ap told (sym (seen_step past e)) ∙ ap (λ (p : Past). told p.seen) (sym is)
-
--- a call that was made, or not
-pub step_leads : {R E : Type 0} (r : Result R E) (past next : Past) (e : Entry) (old new : List Notice) → past ≡ after past.seen → OnOk r (next ≡ step past e) →
-    OnErr r ((next ≡ past) × (new ≡ old)) → next ≡ after next.seen
-step_leads (Ok x) past next e old new led ok err = led_more past next e led ok
-step_leads (Err x) past next e old new led ok err = subst (λ (p : Past). p ≡ after p.seen) (sym err.0) led
-
-pub step_tells : {R E : Type 0} (r : Result R E) (past next : Past) (e : Entry) (old new : List Notice) → past ≡ after past.seen → old ≡ told past.seen → OnOk r (next ≡ step past e) →
-    OnOk r (new ≡ old ++ told_by past e) → OnErr r ((next ≡ past) × (new ≡ old)) → new ≡ told next.seen
-step_tells (Ok x) past next e old new led heard ok grown err = heard_more past next e old new led ok grown heard
-step_tells (Err x) past next e old new led heard ok grown err = err.1 ∙ heard ∙ ap (λ (p : Past). told p.seen) (sym err.0)
 
 pub led_first : start ≡ after []
 unfolding after
@@ -127,47 +98,6 @@ stopped_is_there past caller (DiscardFrame h) r done = by (ticket_in (phase_at p
     by (Some t) is = subst (λ r. has t (step past (Called caller (DiscardFrame h) r)).state.stopped ≡ true) (sym done) (stopped_now past caller h t is)
 stopped_is_there past caller _ r done = tt
 
-pub done_is : (r : Reply) → is_done (Some r) ≡ true → r ≡ reply.Done
-done_is reply.Done is = refl
-done_is _ is = absurd cc
-
-pub none_stopped : (past : Past) (call : Call) (r : Reply) → is_done (Some r) ≡ false → stopped_flight past call r ≡ None
-none_stopped past (DiscardFrame h) reply.Done is = absurd cc
-none_stopped past (DiscardFrame h) _ is = refl
-none_stopped past _ r is = refl
-
--- the reply of the last entry
-last_is : (history : History) (actor : ℕ) (call : Call) (r : Reply) → last_reply (history ++ Called actor call r ∷ []) ≡ Some r
-last_is [] actor call r = refl
-last_is (e ∷ []) actor call r = refl
-last_is (e ∷ next ∷ rest) actor call r = last_is (next ∷ rest) actor call r
-
-pub replied : (past next : Past) (actor : ℕ) (call : Call) (r : Reply) → next ≡ step past (Called actor call r) → last_reply next.seen ≡ Some r
-replied past next actor call r is = ap (λ (p : Past). last_reply p.seen) is ∙ ap last_reply (seen_step past (Called actor call r)) ∙ last_is past.seen actor call r
-
--- a loan that was granted for a parameter has room
-not_first : (a b : Bool) → (not a || b) ≡ false → a ≡ true
-not_first true b is = refl
-not_first false b is = absurd cc
-
-parameter_roomy : (past : Past) (h : ℕ) (name : List ℕ) (elem : DataType) (count : ℕ) → AllNone (refusals_of past (MapParameterArray h name elem count)) →
-    IsTrue (is_element_type elem) × (count * byte_size elem ≤ most_bytes)
-unfolding refusals_of
-parameter_roomy past h name elem count none =
-    (not_first (is_element_type elem) _ (does_not_apply _ _ none.1.1.0), not_less most_bytes (count * byte_size elem) (does_not_apply _ _ none.1.1.1.1.0))
-
-pub roomy_reply : (past : Past) (meaning : Meaning) (c : TraceCall) (call : Call) → call_of meaning c ≡ Some call → IsRoomy c (reply_to past call)
-unfolding answer refusal
-roomy_reply past meaning (WithParam object name elem count write) call is =
-    let same : MapParameterArray (meaning object) name elem count ≡ call = cc in
-    subst (λ call. IsRoomy (WithParam object name elem count write) (reply_to past call)) same (by (refusal past (MapParameterArray (meaning object) name elem count)) refl)
-  where
-    by : (x : Option Refused) → refusal past (MapParameterArray (meaning object) name elem count) ≡ x →
-        IsRoomy (WithParam object name elem count write) (unwrap_or (option_or (option_map reply.Denied x) (Some (reply.Lent (next_place past)))) reply.Done)
-    by None is = parameter_roomy past (meaning object) name elem count (all_none (refusals_of past (MapParameterArray (meaning object) name elem count)) is)
-    by (Some refused) is = tt
-roomy_reply past meaning _ call is = tt
-
 -- a call that is no unmap brings nothing
 some_sound : (past : Past) (x y : Call) → Some x ≡ Some y → is_content_sound past x ≡ true → is_content_sound past y ≡ true
 some_sound past x y same sound = let value : x ≡ y = cc in subst (λ call. is_content_sound past call ≡ true) value sound
@@ -206,31 +136,23 @@ unmap_stops_nothing past caller (UnmapFrame h number) is = refl
 unmap_stops_nothing past caller _ is = absurd cc
 
 -- a call of a trace, step by step
-abbrev left_after : ℕ → ℕ → TraceCall → Call → Option Block → ℕ → Option ℕ → Reply → Replay → Replay
-left_after phase caller c call content place stopped r entered =
-    let taken = with_reply phase caller c (unmap_by content place (handle_of entered.bound phase caller) c r) r entered in
-    record taken { past = with_note Left stopped taken.past }
-
-abbrev entered_by : ℕ → Call → Replay → Replay
-entered_by caller call asked = record asked { past = step asked.past (Called caller call (reply_to asked.past call)) }
-
-pub made_by : (phase caller : ℕ) (c : TraceCall) (call : Call) (old asked entered taken left : Replay) (content : Option Block) (place : ℕ) (stopped : Option ℕ) →
+pub made_by : (phase caller : ℕ) (c : TraceCall) (call : Call) (old asked entered left : Replay) (place : ℕ) (r : Reply) →
     asked ≡ record old { past = ready_for old.past call } →
-    content ≡ mapped_content asked.past (handle_of asked.bound phase caller) c →
     place ≡ next_place asked.past →
-    stopped ≡ stopped_flight asked.past call (reply_to asked.past call) →
-    entered ≡ record asked { past = step asked.past (Called caller call (reply_to asked.past call)) } →
-    taken ≡ with_reply phase caller c (unmap_by content place (handle_of entered.bound phase caller) c (reply_to asked.past call)) (reply_to asked.past call) entered →
-    left ≡ record taken { past = with_note Left stopped taken.past } →
+    entered ≡ record asked { past = with_call caller call asked.past } →
+    r ≡ reply_to asked.past call →
+    left ≡ with_reply phase caller c (unmap_by (mapped_content asked.past (handle_of asked.bound phase caller) c) place (handle_of entered.bound phase caller) c r) r entered →
     left ≡ made phase caller c (handle_of old.bound phase caller) call old
-made_by phase caller c call old asked entered taken left content place stopped is_asked is_content is_place is_stopped is_entered is_taken is_left =
+made_by phase caller c call old asked entered left place r is_asked is_place is_entered is_reply is_left =
     is_left
-    ∙ ap (λ (t : Replay). record t { past = with_note Left stopped t.past }) is_taken
-    ∙ ap (λ (e : Replay). left_after phase caller c call content place stopped (reply_to asked.past call) e) is_entered
-    ∙ ap (λ (s : Option ℕ). left_after phase caller c call content place s (reply_to asked.past call) (entered_by caller call asked)) is_stopped
-    ∙ ap (λ (n : ℕ). left_after phase caller c call content n (stopped_flight asked.past call (reply_to asked.past call)) (reply_to asked.past call) (entered_by caller call asked)) is_place
-    ∙ ap (λ (d : Option Block). left_after phase caller c call d (next_place asked.past) (stopped_flight asked.past call (reply_to asked.past call)) (reply_to asked.past call) (entered_by caller call asked)) is_content
-    ∙ ap (λ (a : Replay). left_after phase caller c call (mapped_content a.past (handle_of a.bound phase caller) c) (next_place a.past) (stopped_flight a.past call (reply_to a.past call)) (reply_to a.past call) (entered_by caller call a)) is_asked
+    ∙ ap (λ (e : Replay). with_reply phase caller c (unmap_by (mapped_content asked.past (handle_of asked.bound phase caller) c) place (handle_of e.bound phase caller) c r) r e) is_entered
+    ∙ ap (λ (n : ℕ). with_reply phase caller c (unmap_by (mapped_content asked.past (handle_of asked.bound phase caller) c) n (handle_of asked.bound phase caller) c r) r (record asked { past = with_call caller call asked.past })) is_place
+    ∙ ap (λ (r : Reply). with_reply phase caller c (unmap_by (mapped_content asked.past (handle_of asked.bound phase caller) c) (next_place asked.past) (handle_of asked.bound phase caller) c r) r (record asked { past = with_call caller call asked.past })) is_reply
+    ∙ ap (λ (a : Replay). with_reply phase caller c (unmap_by (mapped_content a.past (handle_of a.bound phase caller) c) (next_place a.past) (handle_of a.bound phase caller) c (reply_to a.past call)) (reply_to a.past call) (record a { past = with_call caller call a.past })) is_asked
+
+-- what a device that was told all so far is told more
+pub hears_on : (old new : Lone) → HeardOn old new → old.told ≡ told old.past.seen → new.told ≡ told new.past.seen
+hears_on old new heard so_far = heard [] so_far
 
 -- a call of a trace that makes a call of the device
 pub replayed_call : (phase caller : ℕ) (r : Replay) (c : TraceCall) (call : Call) → call_of (handle_of r.bound phase caller) c ≡ Some call →
@@ -258,3 +180,8 @@ folded_all f now xs i all above so_far = ap (λ ys. fold f now (enumerate_from i
 pub if_not_err : {R E : Type 0} {P : Type 0} (r : Result R E) → is_err r ≡ false → OnOk r P → P
 if_not_err (Ok x) done holds = holds
 if_not_err (Err e) done holds = absurd cc
+
+-- what holds of a call that was made holds of what it made
+pub tried_ok : {X E F : Type 0} (out : Result X E) (tried : Result X F) (P : X → Type 0) → IfOk out (λ x. tried ≡ Ok x) → IfOk tried P → IfOk out P
+tried_ok (Ok x) tried P is holds = subst (λ (r : Result _ _). IfOk r P) is holds
+tried_ok (Err e) tried P is holds = tt

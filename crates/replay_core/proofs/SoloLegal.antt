@@ -18,7 +18,8 @@ use Rattle.replay_core.proofs.ReplayFacts.{asked_flies, end_of_loan, led_first, 
 use Rattle.replay_core.specs.Labels.{Meaning, call_of, handle_of}
 use Rattle.replay_core.specs.Places.{EndsLoan}
 use Rattle.replay_core.specs.Loans.{is_unmap, mapped_content, opens, unmap_by, unmap_of}
-use Rattle.replay_core.specs.Solo.{Replay, asked_flight, caller_replayed, made, phase_replayed, ready_for, replayed, solo, stopped_flight, trace_replayed, unmapped, with_call, with_note}
+use Rattle.replay_core.specs.Solo.{Replay, caller_replayed, made, phase_replayed, replayed, solo, trace_replayed, unmapped}
+use Rattle.solo_device.specs.OneThread.{asked_flight, ready_for, stopped_flight, with_call, with_note}
 use Rattle.seq_model.specs.Answers.{answer}
 use Rattle.seq_model.specs.Contents.{entered}
 use Rattle.seq_model.specs.Endings.{ended, reply_to}

@@ -10,7 +10,7 @@ use Rattle.replay_core.proofs.TracePlaces.{at_most_two, unmap_takes_one}
 use Rattle.replay_core.specs.Labels.{Meaning, call_of, handle_of}
 use Rattle.replay_core.specs.Loans.{mapped_content, opens, unmap_of}
 use Rattle.replay_core.specs.Places.{EndsLoan, places_of_call, places_of_caller, places_of_phase}
-use Rattle.replay_core.specs.Solo.{Replay, asked_flight, made, ready_for, replayed, stopped_flight, unmapped, with_call, with_note, caller_replayed, phase_replayed}
+use Rattle.replay_core.specs.Solo.{Replay, made, replayed, unmapped, caller_replayed, phase_replayed}
 use Rattle.room_laws.specs.Taken.{most_of_call, most_places}
 use Rattle.seq_model.specs.Contents.{entered}
 use Rattle.seq_model.specs.Endings.{reply_to}
@@ -18,6 +18,7 @@ use Rattle.seq_model.specs.Steps.{Past, next_place, step}
 use Rattle.seq_model.specs.declared.calls.Call.{Call}
 use Rattle.seq_model.specs.declared.calls.Entry.{Entry}
 use Rattle.seq_model.specs.declared.calls.Entry.TheVariants.{Called, Finished, Left}
+use Rattle.solo_device.specs.OneThread.{asked_flight, ready_for, stopped_flight, with_call, with_note}
 use Rattle.trace_text.specs.declared.calls.Caller.{Caller}
 use Rattle.trace_text.specs.declared.calls.Phase.{Phase}
 use Rattle.trace_text.specs.declared.calls.TraceCall.{TraceCall}

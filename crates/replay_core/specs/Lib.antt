@@ -1,5 +1,6 @@
 pub mod Examples
 pub mod Follows
+pub mod Held
 pub mod Labels
 pub mod Loans
 pub mod Solo

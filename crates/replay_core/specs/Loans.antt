@@ -1,15 +1,14 @@
 -- The loans of a replay: what is written into one where it is granted, and the unmap that ends it.
-use Rattle.std.specs.Prelude.{ℕ, ◌*◌, ◌≤◌, IsTrue, nat_lt, Bool, true, false, List, ◌∷◌, Option, Some, None, fold, if◌then◌else◌}
+use Rattle.std.specs.Prelude.{ℕ, ◌*◌, nat_lt, Bool, true, false, List, ◌∷◌, Option, Some, None, fold, if◌then◌else◌}
 use Rattle.std.specs.Option.{option_and_then, option_map, option_map_or}
 use Rattle.dev_types.specs.Blocks.{with_part}
-use Rattle.dev_types.specs.DataTypes.{byte_size, is_element_type, is_object_type}
+use Rattle.dev_types.specs.DataTypes.{byte_size, is_object_type}
 use Rattle.dev_types.specs.ValueBytes.{bytes_of}
 use Rattle.dev_types.specs.declared.data_types.DataType.{DataType}
 use Rattle.dev_types.specs.declared.values.Value.{Value}
 use Rattle.dev_types.specs.declared.values.Value.TheVariants as value
 use Rattle.kind_tables.specs.SceneObjects.{Block}
 use Rattle.replay_core.specs.Labels.{Meaning}
-use Rattle.seq_model.specs.Refusals.{most_bytes}
 use Rattle.seq_model.specs.State.{object_at, with_bytes}
 use Rattle.seq_model.specs.Steps.{Past, next_place, zeros}
 use Rattle.seq_model.specs.declared.calls.Call.{Call}
@@ -71,11 +70,6 @@ is_unmap (call.UnmapArray _ _ _) = true
 is_unmap (call.UnmapParameterArray _ _ _ _) = true
 is_unmap (call.UnmapFrame _ _) = true
 is_unmap _ = false
-
--- an array that was granted for a parameter has elements of a type that arrays may have, and no more than arrays may have
-abbrev pub IsRoomy : TraceCall → Reply → Type 0
-IsRoomy (WithParam _ _ elem count _) (reply.Lent _) = IsTrue (is_element_type elem) × (count * byte_size elem ≤ most_bytes)
-IsRoomy _ _ = Unit {0}
 
 -- the call opens a loan
 abbrev pub opens : TraceCall → Bool

@@ -1,6 +1,6 @@
 -- The history of a trace on one thread: phase after phase, the first caller that has a call left makes it, and a flight that is asked for is
 -- finished first.
-use Rattle.std.specs.Prelude.{ℕ, Bool, true, false, List, [], ◌∷◌, ◌++◌, Option, Some, None, fold, if◌then◌else◌}
+use Rattle.std.specs.Prelude.{ℕ, List, [], ◌∷◌, ◌++◌, Option, Some, None, fold, if◌then◌else◌}
 use Rattle.std.specs.List.{enumerate_from}
 use Rattle.std.specs.Option.{option_map_or}
 use Rattle.seq_model.specs.Endings.{ended, reply_to}
@@ -9,15 +9,10 @@ use Rattle.replay_core.specs.Loans.{opens, unmap_of}
 use Rattle.replay_core.specs.declared.bindings.Binding.{Binding}
 use Rattle.seq_model.specs.Contents.{entered}
 use Rattle.seq_model.specs.Histories.{History}
-use Rattle.seq_model.specs.Refusals.{phase_at}
-use Rattle.seq_model.specs.State.{ticket_in}
-use Rattle.seq_model.specs.Steps.{Past, start, step}
+use Rattle.seq_model.specs.Steps.{Past, start}
 use Rattle.seq_model.specs.declared.calls.Call.{Call}
-use Rattle.seq_model.specs.declared.calls.Call.TheVariants.{DiscardFrame, FrameReady, MapFrame, RenderFrame}
-use Rattle.seq_model.specs.declared.calls.Entry.{Entry}
-use Rattle.seq_model.specs.declared.calls.Entry.TheVariants.{Called, Finished, Left}
 use Rattle.seq_model.specs.declared.calls.Reply.{Reply}
-use Rattle.seq_model.specs.declared.calls.Reply.TheVariants as reply
+use Rattle.solo_device.specs.OneThread.{ready_for, with_call}
 use Rattle.trace_text.specs.declared.calls.Caller.{Caller}
 use Rattle.trace_text.specs.declared.calls.Phase.{Phase}
 use Rattle.trace_text.specs.declared.calls.Trace.{Trace}
@@ -30,36 +25,6 @@ pub record Replay : Type 0 where
   pub past : Past
   pub bound : List Binding
   pub loans : List (Option Call)
-
--- the flight of a frame that a call asks for
-abbrev pub asked_flight : Past → Call → Option ℕ
-asked_flight past (FrameReady h _) = ticket_in (phase_at past h)
-asked_flight past (MapFrame h _) = ticket_in (phase_at past h)
-asked_flight past (RenderFrame h) = ticket_in (phase_at past h)
-asked_flight past _ = None
-
--- the flight that a discard stops
-abbrev pub stopped_flight : Past → Call → Reply → Option ℕ
-stopped_flight past (DiscardFrame h) reply.Done = ticket_in (phase_at past h)
-stopped_flight past _ _ = None
-
--- a past with a note on a flight, where there is one
-abbrev pub with_note : (ℕ → Entry) → Option ℕ → Past → Past
-with_note note t past = option_map_or (λ ticket. step past (note ticket)) t past
-
--- before a call the flight that it asks for is finished
-abbrev pub ready_for : Past → Call → Past
-ready_for past call = with_note Finished (asked_flight past call) past
-
--- one call with its reply, and after it the note on a flight that it stopped
-abbrev pub with_call : ℕ → Call → Past → Past
-with_call caller call past =
-    with_note Left (stopped_flight past call (reply_to past call)) (step past (Called caller call (reply_to past call)))
-
--- a reply that a call was done
-abbrev pub is_done : Option Reply → Bool
-is_done (Some reply.Done) = true
-is_done _ = false
 
 -- a replay with what the reply to a call of the trace gives: a binding, and the unmap of a loan
 abbrev pub with_reply : ℕ → ℕ → TraceCall → Option Call → Reply → Replay → Replay

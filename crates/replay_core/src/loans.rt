@@ -1,50 +1,85 @@
 //! Loans that a replay opens, and the unmaps that end them.
-ghost use Rattle.std.specs.Prelude.{◌≡◌, IfOk, option_to_list, true};
-ghost use Rattle.dev_types.specs.Blocks.{FitsBlock};
-ghost use Rattle.plain_device.specs.Views.{past_of};
-ghost use Rattle.replay_core.specs.Labels.{binding_of};
-ghost use Rattle.replay_core.specs.Loans.{IsRoomy, content_of, is_unmap, unmap_by, written};
+ghost use Rattle.std.specs.Prelude.{◌≡◌, ◌*◌, ◌≤◌, ◌^◌, ℕ, IfOk, IsTrue, List, OnOk, Option, Some, length, option_to_list, true};
+ghost use Rattle.call_answers.specs.Named.{block_of};
+ghost use Rattle.dev_types.specs.DataTypes.{byte_size, is_element_type};
+ghost use Rattle.dev_types.specs.declared.handles.Channel.{Channel as Channels};
+ghost use Rattle.device_parts.specs.Makes.{Hands, array_of};
+ghost use Rattle.kind_tables.specs.SceneObjects.{Block};
+ghost use Rattle.object_steps.specs.ParameterLoans.{zero_elements};
+ghost use Rattle.replay_core.specs.Held.{IsBlank, holding, loan_by};
+ghost use Rattle.replay_core.specs.Labels.{Meaning, binding_of};
+ghost use Rattle.replay_core.specs.Loans.{is_unmap, new_content, unmap_by, written};
 ghost use Rattle.replay_core.specs.Views.{meaning_of};
 
 use crate::bindings::{Binding, Labels};
 use crate::calls::label_of;
-use crate::notices::NoticeList;
-use crate::writes::Draft;
-use dev_types::{Bytes, Handle, NoMemory};
-use plain_device::device::Device;
+use crate::writes::{Draft, bytes_of_lent, write_all_lent};
+use array_objects::Lent;
+use dev_types::{Bytes, DataType, Handle, NoMemory};
+use object_steps::LentParam;
 use seq_model::{Call, Reply};
+use solo_device::Handed;
 use std::alloc::Global;
 use std::marker::Model;
 use trace_text::{TraceCall, Write};
 
-/// The call that ends a loan.
-#[derive(Drop)]
+/// Gives up the memory of a loan, if there is one.
+pub fn give_up(loan: Handed) {
+    match loan {
+        Handed::Nothing => {}
+        Handed::Lent(lent) => {
+            let _bytes = lent.give_up();
+        }
+        Handed::Param(lent) => {
+            let _bytes = lent.give_up();
+        }
+        Handed::Frame(_) => {}
+    }
+}
+
+/// The call that ends a loan, and the loan that it gives back, where it is one of an array.
 pub struct Unmap {
     call: Call,
-    ghost ends: { is_unmap call ≡ true },
+    loan: Handed,
 }
 
 impl Model for Unmap {
+    ghost use Rattle.std.specs.Prelude.{◌≡◌, true};
+    ghost use Rattle.device_parts.specs.Makes.{Hands};
+    ghost use Rattle.replay_core.specs.Loans.{is_unmap};
     ghost use Rattle.seq_model.specs.declared.calls.Call.{Call};
 
     ghost Value = { Call };
 
     ghost view = { λ u. u.call };
+
+    ghost invariant = { λ u. (is_unmap u.call ≡ true) × Hands u.call u.loan };
+}
+
+impl Drop for Unmap {
+    fn drop(self) {
+        let Unmap { call: _, loan } = self;
+        give_up(loan);
+    }
 }
 
 impl Unmap {
-    fn of(call: Call) -> Unmap
-        requires { is_unmap call ≡ true }
+    fn of(call: Call, loan: Handed) -> Unmap
+        requires ends { is_unmap call ≡ true }
+        requires hands { Hands call loan }
         ensures { result ≡ call }
     {
-        Unmap { call }
+        Unmap { call, loan }
     }
 
-    pub fn into_call(self) -> Call
-        ensures call { result ≡ self }
-        ensures ends { is_unmap result ≡ true }
+    /// The call, and the loan that it gives back.
+    pub fn into_parts(self) -> (Call, Handed)
+        ensures call { result.0 ≡ self }
+        ensures ends { is_unmap result.0 ≡ true }
+        ensures hands { Hands result.0 result.1 }
     {
-        self.call
+        let Unmap { call, loan } = self;
+        (call, loan)
     }
 }
 
@@ -66,87 +101,151 @@ pub fn binding_of(phase: u64, caller: u32, c: &TraceCall, reply: &Reply) -> Opti
     }
 }
 
-/// A copy of an array's content, to be written.
-pub fn content_of(
-    alloc: Global,
-    device: &Device<NoticeList>,
-    h: Handle,
-) -> Result<Option<Draft>, NoMemory>
-    ensures { IfOk result (λ d. d ≡ content_of (past_of device.now) h) }
-{
-    let (Some(elements), Some(block)) = (device.block_of(h), device.bytes_of(h)) else {
-        return Ok(None);
-    };
-    let draft = Draft::copied(alloc, &elements, block)?;
-    Ok(Some(draft))
-}
-
-/// The bytes of a block after all that is written into it.
-fn written(
+/// The unmap that ends the loan of an array, after all that is written into it.
+fn unmap_of_array(
     alloc: Global,
     labels: &Labels<'_>,
-    mut draft: Draft,
+    lent: Lent,
+    writes: &[Write],
+) -> Result<Option<Unmap>, NoMemory>
+    ensures { IfOk result (λ unmap. unmap ≡ Some (Call.UnmapArray lent.array lent.number
+        (written (meaning_of labels.now) writes.now (block_of lent.elements)).bytes)) }
+{
+    let mut lent = lent;
+    let Ok(bytes) = written_bytes(alloc, labels, &mut lent, writes) else {
+        give_up(Handed::Lent(lent));
+        return Err(NoMemory);
+    };
+    let call = Call::UnmapArray {
+        h: lent.array(),
+        number: lent.number(),
+        bytes,
+    };
+    Ok(Some(Unmap::of(call, Handed::Lent(lent))))
+}
+
+/// The bytes of a loan of an array after all that is written into it.
+fn written_bytes(
+    alloc: Global,
+    labels: &Labels<'_>,
+    lent: &mut Lent,
     writes: &[Write],
 ) -> Result<Bytes, NoMemory>
-    ensures { IfOk result (λ bytes. bytes ≡ (written (meaning_of labels.now) writes.now draft).bytes) }
+    ensures bytes { IfOk result (λ bytes. bytes ≡ lent.new.elements.bytes) }
+    ensures written { OnOk result (lent.new ≡ holding
+        (written (meaning_of labels.now) writes.now (block_of lent.old.elements)) lent.old) }
 {
+    write_all_lent(alloc, labels, lent, writes)?;
+    bytes_of_lent(alloc, lent)
+}
+
+/// The unmap that ends the loan of a new array for a parameter, after all that is written into it.
+fn unmap_of_parameter(
+    alloc: Global,
+    labels: &Labels<'_>,
+    lent: LentParam,
+    elem: DataType,
+    count: u64,
+    writes: &[Write],
+) -> Result<Option<Unmap>, NoMemory>
+    requires element { IsTrue (is_element_type elem) }
+    requires within { count * byte_size elem ≤ 2 ^ 28 }
+    requires blank { lent.elements ≡ zero_elements elem count }
+    ensures { IfOk result (λ unmap. unmap ≡ Some (Call.UnmapParameterArray lent.object lent.name
+        lent.number (written (meaning_of labels.now) writes.now (new_content elem count)).bytes)) }
+{
+    let Ok(bytes) = new_bytes(alloc, labels, elem, count, writes) else {
+        give_up(Handed::Param(lent));
+        return Err(NoMemory);
+    };
+    let call = Call::UnmapParameterArray {
+        h: lent.object(),
+        name: lent.name().copied(),
+        number: lent.number(),
+        bytes,
+    };
+    Ok(Some(Unmap::of(call, Handed::Param(lent))))
+}
+
+/// The bytes of a new array after all that is written into it.
+fn new_bytes(
+    alloc: Global,
+    labels: &Labels<'_>,
+    elem: DataType,
+    count: u64,
+    writes: &[Write],
+) -> Result<Bytes, NoMemory>
+    requires element { IsTrue (is_element_type elem) }
+    requires within { count * byte_size elem ≤ 2 ^ 28 }
+    ensures bytes { IfOk result (λ bytes. bytes
+        ≡ (written (meaning_of labels.now) writes.now (new_content elem count)).bytes) }
+    ensures length { IfOk result (λ bytes. length bytes
+        ≡ length (new_content elem count).bytes) }
+{
+    let mut draft = Draft::new(alloc, elem, count)?;
     draft.write_all(alloc, labels, writes)?;
     draft.into_bytes(alloc)
 }
 
-/// The unmap that will end a loan, with what was written into it, where the reply granted one.
-/// `content` is that of the array that was mapped, if it was one, and `place` the place of the loan.
+/// The unmap that will end a loan, with what was written into it, where the reply granted one. `out` is
+/// the loan of an array that was handed out with the reply, if one was, and `place` the place of the
+/// call in the journal.
 pub fn unmap_of(
     alloc: Global,
     labels: &Labels<'_>,
     c: &TraceCall,
-    content: Option<Draft>,
-    place: u64,
     reply: &Reply,
+    out: Handed,
+    place: u64,
 ) -> Result<Option<Unmap>, NoMemory>
-    requires { IsRoomy c.now reply.now }
-    ensures { IfOk result (λ unmap. unmap ≡ unmap_by content place (meaning_of labels.now) c.now reply.now) }
+    requires { IsBlank c.now out }
+    ensures { (content : Option Block)
+        → array_of out ≡ loan_by content (meaning_of labels.now) c.now reply.now
+        → IfOk result (λ unmap. unmap
+        ≡ unmap_by content place (meaning_of labels.now) c.now reply.now) }
 {
     match c {
-        TraceCall::WithArray { array, write } => {
-            let (Reply::Lent(number), Some(draft)) = (reply, content) else {
-                return Ok(None);
-            };
-            let bytes = written(alloc, labels, draft, write.as_slice())?;
-            Ok(Some(Unmap::of(Call::UnmapArray {
-                h: labels.handle(array),
-                number: *number,
-                bytes,
-            })))
-        }
+        TraceCall::WithArray { write, .. } => match out {
+            Handed::Lent(lent) => unmap_of_array(alloc, labels, lent, write.as_slice()),
+            out => {
+                give_up(out);
+                Ok(None)
+            }
+        },
         TraceCall::WithParam {
-            object,
-            name,
             elem,
             count,
             write,
-        } => {
-            let Reply::Lent(number) = reply else {
-                return Ok(None);
-            };
-            let draft = Draft::new(alloc, *elem, *count)?;
-            let bytes = written(alloc, labels, draft, write.as_slice())?;
-            Ok(Some(Unmap::of(Call::UnmapParameterArray {
-                h: labels.handle(object),
-                name: name.copied(),
-                number: *number,
-                bytes,
-            })))
-        }
+            ..
+        } => match out {
+            Handed::Param(lent) => {
+                unmap_of_parameter(alloc, labels, lent, *elem, *count, write.as_slice())
+            }
+            out => {
+                give_up(out);
+                Ok(None)
+            }
+        },
         TraceCall::WithFrame { frame, .. } => {
-            let Reply::Mapped { .. } = reply else {
-                return Ok(None);
-            };
-            Ok(Some(Unmap::of(Call::UnmapFrame {
-                h: labels.handle(frame),
-                number: place,
-            })))
+            give_up(out);
+            Ok(unmap_of_frame(labels.handle(frame), reply, place))
         }
-        _ => Ok(None),
+        _ => {
+            give_up(out);
+            Ok(None)
+        }
     }
+}
+
+/// The unmap that ends the loan of a frame's channel, where the reply granted one at this place.
+fn unmap_of_frame(h: Handle, reply: &Reply, place: u64) -> Option<Unmap>
+    ensures { (content : Option Block) (meaning : Meaning) (frame : List ℕ) (channel : Channels)
+        → h ≡ meaning frame
+        → result ≡ unmap_by content place meaning (TraceCall.WithFrame frame channel) reply.now }
+{
+    let Reply::Mapped { .. } = reply else {
+        return None;
+    };
+    let call = Call::UnmapFrame { h, number: place };
+    Some(Unmap::of(call, Handed::Nothing))
 }

@@ -1,161 +1,119 @@
 //! The replay of a trace on one thread: phase after phase, the first caller that has a call left makes it, and a
 //! flight that is asked for is finished first.
-ghost use Rattle.std.specs.Prelude.{◌≡◌, ◌≤◌, ◌∷◌, ◌++◌, All, Some, [], length, false, IfErr, IfOk, IfSome, IsSome, OnOk, fold, if◌then◌else◌, true};
+ghost use Rattle.std.specs.Prelude.{◌≡◌, ◌≤◌, ◌∷◌, ◌++◌, All, None, Option, [], length, false, IfErr, IfOk, Ok, OnOk, fold, true};
 ghost use Rattle.std.specs.List.{enumerate_from};
 ghost use Rattle.std.specs.Option.{option_to_list};
-ghost use Rattle.seq_model.specs.Endings.{ended, reply_to};
-ghost use Rattle.plain_device.specs.Views.{client_of, last_reply, past_of};
+ghost use Rattle.device_parts.specs.Makes.{array_of};
+ghost use Rattle.kind_tables.specs.SceneObjects.{Block};
+ghost use Rattle.object_steps.specs.Carrying.{handed};
+ghost use Rattle.object_steps.specs.declared.array_loans.ArrayLoan.TheVariants.{Nothing};
+ghost use Rattle.replay_core.specs.Held.{IsBlank, loan_by};
 ghost use Rattle.replay_core.specs.Labels.{binding_of, call_of, handle_of};
-ghost use Rattle.replay_core.specs.Loans.{IsRoomy, mapped_content, opens, unmap_by};
-ghost use Rattle.replay_core.specs.Solo.{asked_flight, caller_replayed, is_done, made, phase_replayed, ready_for, replayed, solo, stopped_flight, unmapped, with_call, with_note, with_reply};
+ghost use Rattle.replay_core.specs.Loans.{is_unmap, unmap_by};
+ghost use Rattle.replay_core.specs.Solo.{caller_replayed, made, phase_replayed, replayed, solo, unmapped, with_reply};
 ghost use Rattle.replay_core.specs.Views.{meaning_of, notices_of};
-ghost use Rattle.seq_model.specs.Answers.{answer};
 ghost use Rattle.seq_model.specs.Builds.{builds};
 ghost use Rattle.seq_model.specs.Contents.{entered};
-ghost use Rattle.seq_model.specs.Legal.{Legal, is_content_sound};
-ghost use Rattle.seq_model.specs.Life.{has};
-ghost use Rattle.seq_model.specs.Steps.{after, next_place, start, step};
+ghost use Rattle.seq_model.specs.Endings.{ended, reply_to};
+ghost use Rattle.seq_model.specs.Legal.{Legal};
+ghost use Rattle.seq_model.specs.Steps.{next_place, start};
 ghost use Rattle.seq_model.specs.Told.{told};
-ghost use Rattle.seq_model.specs.declared.calls.Entry.TheVariants.{Called, Left};
-ghost use Rattle.seq_model.specs.declared.calls.Reply.TheVariants.{Done};
+ghost use Rattle.solo_device.specs.OneThread.{asked_flight, ready_for, with_call};
 
 use crate::bindings::{Binding, Bindings, Labels};
 use crate::calls::{call_of, opens};
-use crate::loans::{Unmap, binding_of, content_of, unmap_of};
+use crate::loans::{Unmap, binding_of, give_up, unmap_of};
 use crate::notices::NoticeList;
-use crate::writes::Draft;
-use dev_types::NoMemory;
-use plain_device::device::{Device, Ended};
+use dev_types::{NoMemory, Refused};
 use seq_model::{Call, Journal, Reply};
+use solo_device::{Ended, Handed, SoloDevice};
 use std::alloc::{AllocError, Global};
 use std::collections::VecDeque;
 use std::marker::Model;
 use trace_text::{Caller, Phase, Trace, TraceCall};
 
+/// How many entries the journal of a device has at most.
+const MOST_ENTRIES: u32 = 1_048_576;
+
 /// Where a replay stands: the device, what the labels of creations were bound to, and the loans that are open, the
 /// innermost first, each with the unmap that ends it where it was granted.
 pub struct Replay {
-    device: Device<NoticeList>,
+    device: SoloDevice<NoticeList>,
     bound: Bindings,
     loans: VecDeque<Option<Unmap>>,
-    ghost led: { past_of device ≡ after (past_of device).seen },
-    ghost heard: { notices_of (client_of device) ≡ told (past_of device).seen },
+    ghost heard: { device.told ≡ told device.past.seen },
 }
 
 impl Model for Replay {
-    ghost use Rattle.plain_device.specs.Views.{past_of};
     ghost use Rattle.replay_core.specs.Solo.{Replay as State};
 
     ghost Value = { State };
 
-    ghost view = { λ r. record { past = past_of r.device; bound = r.bound; loans = r.loans.items } };
+    ghost view = { λ r. record {
+      past = r.device.past;
+      bound = r.bound;
+      loans = r.loans.items;
+    } };
 }
 
-/// The flight of a frame that a call asks for.
-fn asked_flight(device: &Device<NoticeList>, call: &Call) -> Option<u64>
-    ensures { result ≡ asked_flight (past_of device.now) call.now }
-{
-    match call {
-        Call::FrameReady { h, .. } => device.flight_of(*h),
-        Call::MapFrame { h, .. } => device.flight_of(*h),
-        Call::RenderFrame { h } => device.flight_of(*h),
-        _ => None,
-    }
-}
-
-/// The flight that a call stops, if it is done.
-fn stopped_flight(device: &Device<NoticeList>, call: &Call) -> Option<u64>
-    ensures { result ≡ stopped_flight (past_of device.now) call.now Done }
-{
-    match call {
-        Call::DiscardFrame { h } => device.flight_of(*h),
-        _ => None,
-    }
-}
-
-/// A copy of the array's content that a call maps, if it maps an array.
-fn mapped_content(
-    alloc: Global,
-    device: &Device<NoticeList>,
-    labels: Labels<'_>,
-    c: &TraceCall,
-) -> Result<Option<Draft>, NoMemory>
-    ensures { IfOk result (λ d. d ≡ mapped_content (past_of device.now) (meaning_of labels.entry) c.now) }
-{
-    match c {
-        TraceCall::WithArray { array, .. } => content_of(alloc, device, labels.handle(array)),
-        _ => Ok(None),
-    }
-}
-
-/// What the reply to a call of the trace gives: a binding, and the unmap of a loan.
+/// What the reply to a call of the trace gives: a binding, and the unmap of a loan. `out` is the loan that
+/// was handed out with the reply, and `place` the place of the call in the journal.
 fn gained(
     alloc: Global,
-    device: &Device<NoticeList>,
     labels: Labels<'_>,
     c: &TraceCall,
-    content: Option<Draft>,
+    reply: &Reply,
+    out: Handed,
     place: u64,
 ) -> Result<(Option<Binding>, Option<Unmap>), NoMemory>
-    requires { (r : _) → last_reply (past_of device.now).seen ≡ Some r → IsRoomy c.now r }
-    ensures binding { IfOk result (λ g. (r : _) → last_reply (past_of device.now).seen ≡ Some r → option_to_list g.0 ≡ binding_of labels.entry.phase labels.entry.caller c.now r) }
-    ensures unmap { IfOk result (λ g. (r : _) → last_reply (past_of device.now).seen ≡ Some r → g.1 ≡ unmap_by content place (meaning_of labels.entry) c.now r) }
+    requires { IsBlank c.now out }
+    ensures binding { IfOk result (λ g. option_to_list g.0
+        ≡ binding_of labels.entry.phase labels.entry.caller c.now reply.now) }
+    ensures unmap { (content : Option Block)
+        → array_of out ≡ loan_by content (meaning_of labels.entry) c.now reply.now
+        → IfOk result (λ g. g.1
+        ≡ unmap_by content place (meaning_of labels.entry) c.now reply.now) }
 {
-    let Some(reply) = device.reply() else {
-        return Ok((None, None));
-    };
-    let unmap = unmap_of(alloc, &labels, c, content, place, reply)?;
+    let unmap = unmap_of(alloc, &labels, c, reply, out, place)?;
     Ok((binding_of(labels.phase, labels.caller, c, reply), unmap))
+}
+
+/// What a call made; where it was not made, want of memory. A loan that comes back is given up.
+fn made_or_short(
+    tried: Result<(Reply, Handed), (Refused, Call, Handed)>,
+) -> Result<(Reply, Handed), NoMemory>
+    ensures { IfOk result (λ made. tried ≡ Ok made) }
+{
+    match tried {
+        Ok(made) => Ok(made),
+        Err((_refused, _call, loan)) => {
+            give_up(loan);
+            Err(NoMemory)
+        }
+    }
 }
 
 impl Replay {
     /// Finishes the flight that a call asks for.
     fn finish_asked(&mut self, call: &Call)
         ensures past { self.new ≡ record self.old { past = ready_for self.old.past call.now } }
-        ensures answered { IsSome (answer (ready_for self.old.past call.now) call.now) }
+        ensures landed { asked_flight (ready_for self.old.past call.now) call.now ≡ None }
     {
-        if let Some(ticket) = asked_flight(&self.device, call) {
-            self.device.finish_flight(ticket);
-        }
+        self.device.finish_asked(call);
     }
 
-    /// Lets a flight leave that was stopped, if there is one.
-    fn let_leave(&mut self, stopped: Option<u64>)
-        requires { IfSome stopped (λ t. has t self.old.past.state.stopped ≡ true) }
-        ensures { self.new ≡ record self.old { past = with_note Left stopped self.old.past } }
+    /// Makes a call that is no unmap, and for which the flight that it asks for has finished. Its reply is
+    /// handed out, with the loan of a map.
+    fn enter(&mut self, alloc: Global, caller: u32, call: Call) -> Result<(Reply, Handed), NoMemory>
+        requires landed { asked_flight self.old.past call ≡ None }
+        requires plain { is_unmap call ≡ false }
+        ensures past { OnOk result (self.new
+            ≡ record self.old { past = with_call caller call self.old.past }) }
+        ensures reply { IfOk result (λ r. r.0 ≡ reply_to self.old.past call) }
+        ensures loan { IfOk result (λ r. array_of r.1 ≡ handed (next_place self.old.past) call
+            r.0 self.old.past.state Nothing) }
     {
-        if let Some(ticket) = stopped {
-            self.device.let_leave(ticket);
-        }
-    }
-
-    /// Makes a call.
-    fn enter(&mut self, alloc: Global, caller: u32, call: Call) -> Result<(), NoMemory>
-        requires answered { IsSome (answer self.old.past call) }
-        requires sound { is_content_sound self.old.past call ≡ true }
-        ensures { OnOk result (self.new ≡ record self.old { past = step self.old.past (Called caller call (reply_to self.old.past call)) }) }
-    {
-        match self.device.step(alloc, caller, call) {
-            Ok(()) => Ok(()),
-            Err((NoMemory, _)) => Err(NoMemory),
-        }
-    }
-
-    /// Whether the last call was done.
-    fn is_done(&self) -> bool
-        ensures { result ≡ is_done (last_reply self.now.past.seen) }
-    {
-        match self.device.reply() {
-            Some(Reply::Done) => true,
-            _ => false,
-        }
-    }
-
-    /// The flight that a call stops, if it is done.
-    fn stopped_flight(&self, call: &Call) -> Option<u64>
-        ensures { result ≡ stopped_flight self.now.past call.now Done }
-    {
-        stopped_flight(&self.device, call)
+        made_or_short(self.device.step(alloc, caller, call, Handed::Nothing))
     }
 
     /// The place of the next entry.
@@ -165,24 +123,6 @@ impl Replay {
         self.device.place()
     }
 
-    /// A copy of the array's content that a call maps, if it maps an array.
-    fn mapped_content(
-        &self,
-        alloc: Global,
-        phase: u64,
-        caller: u32,
-        c: &TraceCall,
-    ) -> Result<Option<Draft>, NoMemory>
-        ensures { IfOk result (λ d. d ≡ mapped_content self.now.past (handle_of self.now.bound phase caller) c.now) }
-    {
-        let labels = Labels {
-            bound: &self.bound,
-            phase,
-            caller,
-        };
-        mapped_content(alloc, &self.device, labels, c)
-    }
-
     /// What the reply to a call of the trace gives: a binding, and the unmap of a loan.
     fn gained(
         &self,
@@ -190,19 +130,24 @@ impl Replay {
         phase: u64,
         caller: u32,
         c: &TraceCall,
-        content: Option<Draft>,
+        reply: &Reply,
+        out: Handed,
         place: u64,
     ) -> Result<(Option<Binding>, Option<Unmap>), NoMemory>
-        requires { (r : _) → last_reply self.now.past.seen ≡ Some r → IsRoomy c.now r }
-        ensures binding { IfOk result (λ g. (r : _) → last_reply self.now.past.seen ≡ Some r → option_to_list g.0 ≡ binding_of phase caller c.now r) }
-        ensures unmap { IfOk result (λ g. (r : _) → last_reply self.now.past.seen ≡ Some r → g.1 ≡ unmap_by content place (handle_of self.now.bound phase caller) c.now r) }
+        requires { IsBlank c.now out }
+        ensures binding { IfOk result
+            (λ g. option_to_list g.0 ≡ binding_of phase caller c.now reply.now) }
+        ensures unmap { (content : Option Block)
+            → array_of out ≡ loan_by content (handle_of self.now.bound phase caller) c.now reply.now
+            → IfOk result (λ g. g.1
+            ≡ unmap_by content place (handle_of self.now.bound phase caller) c.now reply.now) }
     {
         let labels = Labels {
             bound: &self.bound,
             phase,
             caller,
         };
-        gained(alloc, &self.device, labels, c, content, place)
+        gained(alloc, labels, c, reply, out, place)
     }
 
     /// Takes in what the reply to a call of the trace gives: a binding, a loan.
@@ -212,13 +157,19 @@ impl Replay {
         phase: u64,
         caller: u32,
         c: &TraceCall,
-        content: Option<Draft>,
+        made: (Reply, Handed),
         place: u64,
     ) -> Result<(), NoMemory>
-        requires { (r : _) → last_reply self.old.past.seen ≡ Some r → IsRoomy c.now r }
-        ensures { OnOk result ((r : _) → last_reply self.old.past.seen ≡ Some r → self.new ≡ with_reply phase caller c.now (unmap_by content place (handle_of self.old.bound phase caller) c.now r) r self.old) }
+        requires { IsBlank c.now made.1 }
+        ensures { (content : Option Block)
+            → array_of made.1
+            ≡ loan_by content (handle_of self.old.bound phase caller) c.now made.0
+            → OnOk result (self.new ≡ with_reply phase caller c.now
+            (unmap_by content place (handle_of self.old.bound phase caller) c.now made.0) made.0
+            self.old) }
     {
-        let (binding, unmap) = self.gained(alloc, phase, caller, c, content, place)?;
+        let (reply, out) = made;
+        let (binding, unmap) = self.gained(alloc, phase, caller, c, &reply, out, place)?;
         if opens(c) {
             self.open(unmap)?;
         }
@@ -245,12 +196,20 @@ impl Replay {
 
     /// Ends a loan by its unmap, without the elements that name what is not there.
     fn end_loan(&mut self, alloc: Global, caller: u32, unmap: Unmap) -> Result<(), NoMemory>
-        ensures { OnOk result (self.new ≡ record self.old { past = with_call caller (entered self.old.past unmap) self.old.past }) }
+        ensures { OnOk result (self.new ≡ record self.old {
+          past = with_call caller (entered self.old.past unmap) self.old.past;
+        }) }
     {
-        let unmap = unmap.into_call();
-        match self.device.entered(alloc, unmap) {
-            Ok(call) => self.enter(alloc, caller, call),
-            Err((NoMemory, _)) => Err(NoMemory),
+        let (call, loan) = unmap.into_parts();
+        match self.device.step(alloc, caller, call, loan) {
+            Ok((_reply, left)) => {
+                give_up(left);
+                Ok(())
+            }
+            Err((_refused, _call, loan)) => {
+                give_up(loan);
+                Err(NoMemory)
+            }
         }
     }
 
@@ -278,16 +237,9 @@ impl Replay {
         ensures { OnOk result (self.new ≡ made phase caller c.now (handle_of self.old.bound phase caller) call self.old) }
     {
         self.finish_asked(&call);
-        let stopped = self.stopped_flight(&call);
-        let content = self.mapped_content(alloc, phase, caller, c)?;
         let place = self.place();
-        self.enter(alloc, caller, call)?;
-        let is_done = self.is_done();
-        self.take_reply(alloc, phase, caller, c, content, place)?;
-        if is_done {
-            self.let_leave(stopped);
-        }
-        Ok(())
+        let made = self.enter(alloc, caller, call)?;
+        self.take_reply(alloc, phase, caller, c, made, place)
     }
 
     /// Replays one call of the trace.
@@ -399,7 +351,7 @@ impl Replay {
         ensures ok { IfOk result (λ r. r ≡ record { past = start; bound = []; loans = [] }) }
         ensures err { IfErr result (λ heard. notices_of heard ≡ []) }
     {
-        match Device::new(alloc, NoticeList::new(alloc)) {
+        match SoloDevice::new(alloc, NoticeList::new(alloc), MOST_ENTRIES) {
             Ok(device) => Ok(Replay {
                 device,
                 bound: Bindings::new(alloc),
@@ -426,12 +378,13 @@ impl Replay {
             history,
             client,
             builds,
+            tests,
         } = device.finish();
         Replayed {
             history,
             told: client,
             builds,
-            tests: 0,
+            tests,
             short,
         }
     }
@@ -446,8 +399,7 @@ pub struct Replayed {
     pub told: NoticeList,
     /// How many worlds were prepared.
     pub builds: u64,
-    /// How many times a ray was tested against a primitive beyond its box; 0 here, where each ray is tested against
-    /// every primitive.
+    /// How many times a ray was tested against a primitive beyond its box, up to the greatest number.
     pub tests: u64,
     /// There was too little memory to replay the whole trace. The device was closed all the same.
     pub short: bool,

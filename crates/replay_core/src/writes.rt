@@ -4,11 +4,13 @@ ghost use Rattle.dev_types.specs.Blocks.{FitsBlock, with_part};
 ghost use Rattle.dev_types.specs.DataTypes.{byte_size, is_element_type};
 ghost use Rattle.dev_types.specs.ValueBytes.{bytes_of, is_well_typed, type_of};
 ghost use Rattle.call_answers.specs.Named.{block_of};
+ghost use Rattle.replay_core.specs.Held.{holding};
 ghost use Rattle.replay_core.specs.Loans.{new_content, with_element, with_write, written, written_value};
 ghost use Rattle.replay_core.specs.Views.{meaning_of};
 
 use crate::bindings::Labels;
-use byte_view::{Strided, StridedMut};
+use array_objects::Lent;
+use byte_view::StridedMut;
 use dev_types::{Bytes, DataType, NoMemory, Value, size_of};
 use std::alloc::Global;
 use std::marker::Model;
@@ -33,21 +35,6 @@ impl Model for Draft {
 }
 
 impl Draft {
-    /// A copy of the elements of an array, with all bytes of the block in which they lie.
-    pub fn copied(alloc: Global, elements: &Strided<'_>, block: &Bytes) -> Result<Draft, NoMemory>
-        requires fits { FitsBlock elements.now.ty elements.now.stride elements.now.count (length elements.now.bytes) }
-        requires whole { elements.now.bytes ≡ block.now }
-        ensures { IfOk result (λ d. d ≡ block_of elements.now) }
-    {
-        let bytes = Vec::from_slice(alloc, block.as_slice())?;
-        Ok(Draft {
-            elem: elements.data_type(),
-            count: elements.len(),
-            stride: elements.stride(),
-            bytes,
-        })
-    }
-
     /// The elements of a new array, without gaps and all zero.
     pub fn new(alloc: Global, elem: DataType, count: u64) -> Result<Draft, NoMemory>
         requires element { IsTrue (is_element_type elem) }
@@ -69,7 +56,8 @@ impl Draft {
         requires within { i < self.old.count }
         requires typed { type_of value.now ≡ self.old.elem }
         requires well_typed { IsTrue (is_well_typed value.now) }
-        ensures { self.new ≡ with_element i self.old value.now }
+        ensures value { self.new ≡ with_element i self.old value.now }
+        ensures length { length self.new.bytes ≡ length self.old.bytes }
     {
         put(
             &mut self.bytes,
@@ -83,7 +71,9 @@ impl Draft {
 
     /// Writes an element; left out where it has no place, or does not fit the type of the elements.
     fn write(&mut self, alloc: Global, labels: &Labels<'_>, write: &Write) -> Result<(), NoMemory>
-        ensures { OnOk result (self.new ≡ with_write (meaning_of labels.now) self.old write.now) }
+        ensures value { OnOk result (self.new
+            ≡ with_write (meaning_of labels.now) self.old write.now) }
+        ensures length { length self.new.bytes ≡ length self.old.bytes }
     {
         if write.index >= self.count {
             return Ok(());
@@ -102,7 +92,9 @@ impl Draft {
         labels: &Labels<'_>,
         writes: &[Write],
     ) -> Result<(), NoMemory>
-        ensures { OnOk result (self.new ≡ written (meaning_of labels.now) writes.now self.old) }
+        ensures value { OnOk result (self.new
+            ≡ written (meaning_of labels.now) writes.now self.old) }
+        ensures length { length self.new.bytes ≡ length self.old.bytes }
     {
         for write in writes {
             self.write(alloc, labels, write)?;
@@ -118,6 +110,55 @@ impl Draft {
             Ok(bytes) => Ok(bytes),
             Err((NoMemory, _)) => Err(NoMemory),
         }
+    }
+}
+
+/// Writes an element into a loan; left out where it has no place, or does not fit the type of the
+/// elements.
+fn write_lent(
+    alloc: Global,
+    labels: &Labels<'_>,
+    lent: &mut Lent,
+    write: &Write,
+) -> Result<(), NoMemory>
+    ensures { OnOk result (lent.new ≡ holding
+        (with_write (meaning_of labels.now) (block_of lent.old.elements) write.now) lent.old) }
+{
+    if write.index >= lent.view().len() {
+        return Ok(());
+    }
+    let elem = lent.view().data_type();
+    let Some(value) = written_value(alloc, labels, elem, &write.element)? else {
+        return Ok(());
+    };
+    lent.set(write.index, &value);
+    Ok(())
+}
+
+/// Writes elements into a loan, in order.
+pub fn write_all_lent(
+    alloc: Global,
+    labels: &Labels<'_>,
+    lent: &mut Lent,
+    writes: &[Write],
+) -> Result<(), NoMemory>
+    ensures { OnOk result (lent.new ≡ holding
+        (written (meaning_of labels.now) writes.now (block_of lent.old.elements)) lent.old) }
+{
+    for write in writes {
+        write_lent(alloc, labels, lent, write)?;
+    }
+    Ok(())
+}
+
+/// A copy of all bytes of a loan.
+pub fn bytes_of_lent(alloc: Global, lent: &Lent) -> Result<Bytes, NoMemory>
+    ensures { IfOk result (λ bytes. bytes ≡ lent.now.elements.bytes) }
+{
+    let bytes = Vec::from_slice(alloc, lent.bytes())?;
+    match Bytes::of(alloc, bytes) {
+        Ok(bytes) => Ok(bytes),
+        Err((NoMemory, _)) => Err(NoMemory),
     }
 }
 

@@ -24,9 +24,9 @@ use seq_model::{Call, Journal, Reply};
 use std::alloc::Global;
 use std::marker::Model;
 
-/// A device with one caller, on one thread. Nobody else works on its flights: a flight is rendered when
-/// it is asked for, and so has finished before the call that asks for it; and a flight that a call
-/// stops leaves with that call. So no call waits, and none sees a flight half done.
+/// A device with one caller, on one thread. Nobody else works on its flights: a flight is rendered
+/// when it is asked for, and so has finished before the call that asks for it; and a flight that a
+/// call stops leaves with that call. So no call waits, and none sees a flight half done.
 #[derive(Drop)]
 pub struct SoloDevice<C: Client> {
     device: DeviceState<C>,
@@ -43,8 +43,9 @@ impl<C: Client> Model for SoloDevice<C> {
     ghost invariant = { λ d. IsLone d.device };
 }
 
-/// What a device leaves: all that happened on it, the client, how many renders prepared their world,
-/// and how many times a ray was tested against a primitive beyond its box, up to the greatest number.
+/// What a device leaves: all that happened on it, the client, how many renders prepared their
+/// world, and how many times a ray was tested against a primitive beyond its box, up to the
+/// greatest number.
 pub struct Ended<C> {
     pub history: Journal,
     pub client: C,
@@ -53,8 +54,8 @@ pub struct Ended<C> {
 }
 
 impl<C: Client> SoloDevice<C> {
-    /// A device on which nothing happened. Its journal takes so many entries at most, the close among
-    /// them: 2 to 1048576.
+    /// A device on which nothing happened. Its journal takes so many entries at most, the close
+    /// among them: 2 to 1048576.
     ///
     /// # Errors
     /// `NoMemory`; the client comes back.
@@ -89,8 +90,8 @@ impl<C: Client> SoloDevice<C> {
         self.device.entries() + 1
     }
 
-    /// Finishes the flight that a call asks for, if it asks for one: its tiles are rendered, and then
-    /// it is noted that it has finished. Takes no memory.
+    /// Finishes the flight that a call asks for, if it asks for one: its tiles are rendered, and
+    /// then it is noted that it has finished. Takes no memory.
     pub fn finish_asked(&mut self, call: &Call)
         ensures past { self.new.past ≡ ready_for self.old.past call.now }
         ensures told { HeardOn self.old self.new }
@@ -125,14 +126,14 @@ impl<C: Client> SoloDevice<C> {
         self.tests = self.tests.saturating_add(tests);
     }
 
-    /// Makes a call of this caller, for which the flight that it asks for has finished: it is refused or
-    /// carried out, and entered with its reply; and a flight that it stopped leaves. `with` is the loan
-    /// that an unmap gives back; the loan of a map is handed out, and that of an unmap which is refused
-    /// comes back.
+    /// Makes a call of this caller, for which the flight that it asks for has finished: it is
+    /// refused or carried out, and entered with its reply; and a flight that it stopped leaves.
+    /// `with` is the loan that an unmap gives back; the loan of a map is handed out, and that of an
+    /// unmap which is refused comes back.
     ///
     /// # Errors
-    /// `JournalFull` exactly where the journal has no place left for the call and what it owes, else
-    /// `NoMemory`; the call and the loan come back, and nothing has happened.
+    /// `JournalFull` exactly where the journal has no place left for the call and what it owes,
+    /// else `NoMemory`; the call and the loan come back, and nothing has happened.
     pub fn step(
         &mut self,
         alloc: Global,
@@ -160,8 +161,8 @@ impl<C: Client> SoloDevice<C> {
         self.device.step(alloc, actor, call, with)
     }
 
-    /// Ends the device: each flight leaves, by rising ticket, and then the device is closed. Takes no
-    /// memory.
+    /// Ends the device: each flight leaves, by rising ticket, and then the device is closed. Takes
+    /// no memory.
     pub fn finish(self) -> Ended<C>
         ensures history { result.history ≡ (ended self.past).seen }
         ensures told { (before : List Notices) → self.told ≡ before ++ told self.past.seen

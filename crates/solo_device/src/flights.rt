@@ -9,9 +9,9 @@ ghost use Rattle.world_snapshot.specs.Works.{scene_of_work};
 use tile_render::render;
 use world_snapshot::Work;
 
-/// Claims, renders and gives the tiles of a flight, one after the other, until none is left. Its first
-/// seat is the only one, and has not claimed yet. Answers the number of hit tests, up to the greatest
-/// number. Takes no memory.
+/// Claims, renders and gives the tiles of a flight, one after the other, until none is left. Its
+/// first seat is the only one, and has not claimed yet. Answers the number of hit tests, up to the
+/// greatest number. Takes no memory.
 pub fn render_flight(work: &mut Work) -> u64
     requires seat { IsSeatOf work.old.claims work.old.seat }
     requires alone { IsAlone (view work.old.seat) }

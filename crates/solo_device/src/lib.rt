@@ -1,5 +1,5 @@
-//! A device with one caller, on one thread: a flight is rendered when it is asked for, so that no call
-//! waits for one.
+//! A device with one caller, on one thread: a flight is rendered when it is asked for, so that no
+//! call waits for one.
 #![tactic(auto)]
 
 mod devices;
