@@ -1,5 +1,6 @@
 -- Lemmas of this crate.
 pub mod AwakeFacts
+pub mod CauseFacts
 pub mod FinishFacts
 pub mod KeepFacts
 pub mod LoanFacts

@@ -13,7 +13,7 @@ use Rattle.seq_model.specs.declared.calls.Call.{Call}
 use Rattle.seq_model.specs.declared.calls.Call.TheVariants.{FrameReady}
 use Rattle.seq_model.specs.declared.calls.Reply.{Reply}
 use Rattle.device_parts.specs.AllParts.{Inside}
-use Rattle.device_parts.specs.Calls.{HasEntered, HasPlaceToStop, HasRoomMade}
+use Rattle.device_parts.specs.Calls.{HasEntered, HasRoomMade}
 use Rattle.device_parts.specs.Deaths.{all_told}
 use Rattle.device_parts.specs.Looks.{AreShort}
 use Rattle.device_parts.specs.Makes.{IsMoved, LeavesFrame, LendsChannel, array_of, frame_of, told_as}
@@ -62,15 +62,13 @@ pub record HasStepped (actor : ℕ) (call : Call) (with : Handed) (r : Reply) (o
   pub short : AreShort new.parts.flights.future
 
 -- a call was not made: the journal was full, or else there was no memory; nothing changed but for the room.
--- It was not for want of memory where the call needs none and there was memory for a call, with a place for
--- the flight that a discard may stop
+-- It was not for want of memory where the call needs none and there was memory for a call
 pub record Declines (call : Call) (e : Refused) (old new : Device) : Type 0 where
   pub cause : e ≡ (if is_full old.limit (after old.parts.history) call then JournalFull old.limit else NoMemory)
   pub parts : HasRoomMade old.parts new.parts
   pub told : new.told ≡ old.told
   pub spare : old.spare ≤ new.spare
-  pub needs : is_full old.limit (after old.parts.history) call ≡ false → needs_no_memory call ≡ true
-      → HasPlaceToStop call old.parts.objects.stored → spare_calls old ≡ 0
+  pub needs : is_full old.limit (after old.parts.history) call ≡ false → needs_no_memory call ≡ true → spare_calls old ≡ 0
   pub limit : new.limit ≡ old.limit
   pub ending : new.ending ≡ old.ending
 

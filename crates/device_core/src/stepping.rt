@@ -1,5 +1,7 @@
 //! Calls of the application.
-ghost use Rattle.std.specs.Prelude.{◌≡◌, ◌++◌, ◌∷◌, ◌+◌, ◌-◌, ◌<◌, ◌≤◌, ◌^◌, [], IfErr, IfOk, IsSome, OnOk, false, length};
+ghost use Rattle.std.specs.Prelude.{◌≡◌, ◌++◌, ◌∷◌, ◌+◌, ◌-◌, ◌<◌, ◌≤◌, ◌^◌, [], IfErr, IfOk, IsSome, OnOk, false, length, true};
+ghost use Rattle.call_answers.specs.Plain.{needs_no_memory};
+ghost use Rattle.dev_types.specs.declared.refusals.Refused.TheVariants.{JournalFull};
 ghost use Rattle.frame_future.specs.Future.{AreHome};
 ghost use Rattle.room_laws.specs.Loans.{lends, takes_back};
 ghost use Rattle.seq_model.specs.Answers.{answer};
@@ -33,6 +35,8 @@ impl<C: Client> DeviceState<C> {
     /// # Errors
     /// `JournalFull` exactly where the journal has no place left for the call and what it owes, else
     /// `NoMemory`; the call and the loan come back, and only the first sweep has changed anything.
+    /// Retain, release, a question whether a frame is ready, a discard and the unmap of a frame's
+    /// channel never answer `NoMemory` where memory was taken ahead for a call.
     pub fn step(
         &mut self,
         alloc: Global,
@@ -46,6 +50,8 @@ impl<C: Client> DeviceState<C> {
         requires hands { Hands call with }
         ensures stepped { IfOk result (λ r. HasStepped actor call with r.0 r.1 self.old self.new) }
         ensures declined { IfErr result (λ e. HasDeclined call e.0 self.old self.new) }
+        ensures full_alone { needs_no_memory call ≡ true → 0 < spare_calls self.old
+            → IfErr result (λ e. e.0 ≡ JournalFull self.old.limit) }
         ensures returned { IfErr result (λ e. (e.1 ≡ call) × (e.2 ≡ with)) }
         ensures spare { OnOk result (spare_calls self.old ≤ spare_calls self.new + 1) }
         ensures going { self.new.ending ≡ false }

@@ -1,5 +1,5 @@
 -- What always holds of the parts of a device holds once a call is entered that changes no frame.
-use Rattle.std.proofs.Common.{◌≡◌, ◌∙◌, ℕ, ◌+◌, ◌<◌, Bool, true, false, List, [], ◌∷◌, ◌++◌, None, Some, length, length-append, refl, sym, ap, subst, arith}
+use Rattle.std.proofs.Common.{◌≡◌, ◌∙◌, ℕ, ◌+◌, ◌<◌, ◌≤◌, Bool, true, false, List, [], ◌∷◌, ◌++◌, None, Some, length, length-append, refl, sym, ap, subst, arith}
 use Rattle.std.specs.Prelude.{IsTrue}
 use Rattle.std.specs.Option.{unwrap_or}
 use Rattle.std.specs.List.{AllByRecursion, filter_map}
@@ -25,7 +25,7 @@ use Rattle.seq_model.specs.Legal.{Legal}
 use Rattle.seq_model.specs.Steps.{after}
 use Rattle.seq_model.specs.Told.{end_of_object, gone, status_at}
 use Rattle.seq_model.specs.declared.calls.Call.{Call}
-use Rattle.seq_model.specs.declared.calls.Call.TheVariants.{Commit, RenderFrame, DiscardFrame, MapFrame, UnmapArray, UnmapFrame}
+use Rattle.seq_model.specs.declared.calls.Call.TheVariants.{Commit, RenderFrame, DiscardFrame, MapFrame, NewArray, NewObject, Release, Retain, UnmapArray, UnmapFrame, UnmapParameterArray}
 use Rattle.seq_model.specs.declared.calls.Entry.TheVariants.{Called, Closed}
 use Rattle.seq_model.specs.declared.calls.Reply.{Reply}
 use Rattle.seq_model.specs.declared.calls.Reply.TheVariants as reply
@@ -90,6 +90,15 @@ untouched actor (Commit h) reply.Done is objects = absurd cc
 untouched actor (UnmapArray h number bytes) reply.Done is objects = absurd cc
 untouched actor call r is objects = refl
 
+-- a call that was carried out leaves as many places for stopped flights
+carried_places : (place : ℕ) (call : Call) (r : Reply) (s : Stored) → (carried place call r s).places ≡ s.places
+carried_places place (NewObject t subtype) (reply.Made h) s = refl
+carried_places place (NewArray elem count stride origin bytes) (reply.Made h) s = refl
+carried_places place (UnmapParameterArray h name number bytes) (reply.Made made) s = refl
+carried_places place (Retain h) reply.Done s = refl
+carried_places place (Release h) reply.Done s = refl
+carried_places place call r s = refl
+
 -- after a call on an open device notes may follow
 pub called_lets : (history : History) (actor : ℕ) (call : Call) (r : Reply) → IsOpen history → LetsNotes (history ++ Called actor call r ∷ [])
 called_lets history actor call r open_ note quiet =
@@ -117,8 +126,8 @@ module _ (old new : Inside) (actor : ℕ) (call : Call) (r : Reply) (moved : Sto
   pub called_leaves : LeavesBut old.history (Called actor call r) new.objects.departed
   called_leaves = leaves old.history (Called actor call r) moved new.objects.stored new.objects.departed no_close follows counted_moved counted is_left is_buried departed
 
-  pub called_parts : IsStanding old → length old.history + length old.flights.future.flights + 1 < old.room → AreParts new
-  called_parts stands place = parts_after old new (Called actor call r) moved mid p no_close follows counted_moved counted is_left is_buried departed grown flown
+  pub called_parts : IsStanding old → length old.history + length old.flights.future.flights + 1 < old.room → old.objects.stored.places ≤ moved.places → AreParts new
+  called_parts stands place more_places = parts_after old new (Called actor call r) moved mid p no_close follows counted_moved counted is_left is_buried departed grown flown
       (subst (AllByRecursion (IsLoaded (old.history ++ Called actor call r ∷ []))) (sym cargo) (all_loaded old.history (Called actor call r) old.flights.cargo p.loaded))
       (subst (AreAboard new.flights.future.flights) (sym cargo) aboard)
       (subst (AllOver (old.history ++ Called actor call r ∷ [])) (sym over) (others_over old.history (Called actor call r) old.flights.over follows.legal refl p.over))
@@ -128,6 +137,11 @@ module _ (old new : Inside) (actor : ℕ) (call : Call) (r : Reply) (moved : Sto
       let count = aboard_count new.flights.future.flights old.flights.cargo aboard in
       let was = aboard_count old.flights.future.flights old.flights.cargo p.aboard in
       omega (arith, place, longer, count, was, room))
+      (let count = aboard_count new.flights.future.flights old.flights.cargo aboard in
+      let was = aboard_count old.flights.future.flights old.flights.cargo p.aboard in
+      let had = p.stops in
+      let left = is_left.places in
+      omega (arith, count, was, had, left, more_places))
 
   pub called_enters : filter_map notice_of new.objects.dead ≡ filter_map end_of_object (gone moved.state new.objects.stored.state) → HasEntered actor call r old new
   called_enters notices = record {
@@ -141,6 +155,9 @@ module _ (old new : Inside) (actor : ℕ) (call : Call) (r : Reply) (moved : Sto
 module _ (old : Inside) (actor : ℕ) (call : Call) (r : Reply) (p : AreParts old) (objects : IsOfObjects call r) where
   abbrev pub moved : Stored
   moved = carried (length old.history + 1) call r old.objects.stored
+
+  pub moved_places : old.objects.stored.places ≤ moved.places
+  moved_places = let same = carried_places (length old.history + 1) call r old.objects.stored in omega (arith, same)
 
   pub moved_follows : CountsItsObjects old.objects.stored → CanCarry old.objects.stored call r → Legal (old.history ++ Called actor call r ∷ []) → Follows moved old.history (Called actor call r)
   moved_follows counted can legal = follows old.objects.stored old.history actor call r p.rest counted objects can legal

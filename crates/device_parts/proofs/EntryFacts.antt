@@ -139,7 +139,8 @@ module _ (old new : Inside) (e : Entry) (moved : Stored) (mid : Worlds World) (p
     (forgotten : (w : ℕ) → kept_at new.worlds w ≡ unless_dead new.objects.departed w (kept_at mid w))
     (known : (history : History) (there : ℕ → Bool) → AreKept there history (reach_at mid) → AreKept (all_but_those new.objects.departed there) history (reach_at new.worlds))
     (built : new.builds ≡ builds (old.history ++ e ∷ []))
-    (places : length new.history + length new.flights.future.flights < new.room) where
+    (places : length new.history + length new.flights.future.flights < new.room)
+    (stops : length new.flights.future.flights < new.objects.stored.places) where
   leaves_all : LeavesBut old.history e new.objects.departed
   leaves_all = leaves old.history e moved new.objects.stored new.objects.departed going follows counted_moved counted is_left is_buried departed
 
@@ -201,4 +202,5 @@ module _ (old new : Inside) (e : Entry) (moved : Stored) (mid : Worlds World) (p
     built = built ∙ ap builds (sym grown);
     over = subst (λ h. AllOver h new.flights.over) (sym grown) over;
     places = places;
+    stops = stops;
   }

@@ -60,6 +60,7 @@ module _ (old : Inside) (p : AreParts old) (books : AreBooks old.flights) (t : �
     built = p.built;
     over = p.over;
     places = subst (λ n. length old.history + n < old.room) (sym (seen_count old.flights.future moved.future (same_runs old.flights.future moved.future same))) p.places;
+    stops = subst (λ n. n < old.objects.stored.places) (sym (seen_count old.flights.future moved.future (same_runs old.flights.future moved.future same))) p.stops;
   }
     where
       load : IsLoaded old.history c

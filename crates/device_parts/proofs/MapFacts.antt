@@ -1,4 +1,5 @@
 -- What always holds of the parts of a device holds once a channel of a frame is mapped.
+use Rattle.std.proofs.Math.Nat.{le_refl}
 use Rattle.std.proofs.Common.{◌≡◌, ◌∙◌, ℕ, ◌+◌, ◌<◌, ◌≤◌, Bool, List, [], ◌∷◌, ◌++◌, Option, None, Some, length, refl, sym, ap, subst, arith}
 use Rattle.std.specs.Prelude.{Err, IfOk, Ok, Result}
 use Rattle.std.specs.List.{filter_map}
@@ -192,7 +193,7 @@ module _ (old : Inside) (h : ℕ) (c : Channel) (p : AreParts old) (stands : IsS
         pub map_parts : length old.history + length old.flights.future.flights + 1 < old.room → AreParts new
         map_parts place = called_parts old new actor (MapFrame h c) (told_of loan) moved old.worlds p map_follows refl map_tells counted_moved counted is_left is_buried departed grown
             flies (same_aboard old p new.flights.future.flights map_flights) (ap (λ (b : Books Load). b.cargo) flights_are) (ap (λ (b : Books Load). b.over) flights_are)
-            touched p.shown forgotten known same room stands place
+            touched p.shown forgotten known same room stands place (le_refl old.objects.stored.places)
 
         pub map_enters : filter_map notice_of new.objects.dead ≡ filter_map end_of_object (gone moved.state new.objects.stored.state) → HasEntered actor (MapFrame h c) (told_of loan) old new
         map_enters notices = called_enters old new actor (MapFrame h c) (told_of loan) moved old.worlds p map_follows refl map_tells counted_moved counted is_left is_buried departed grown

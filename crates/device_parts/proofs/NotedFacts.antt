@@ -188,6 +188,8 @@ module _ (old new : Inside) (e : Ended) (c : Cargo Load) (left : List Flying) (x
       (let was = x.parts.places in let longer = ap length grown ∙ length-append old.history (note e.left e.ticket ∷ []) in let less = ap length flights in
       let one = x.fewer in
       omega (arith, was, longer, less, one, room))
+      (let had = x.parts.stops in let less = ap length flights in let one = x.fewer in let left_places = is_left.places in
+      omega (arith, had, less, one, left_places))
 
   -- who died is told, and nobody else
   pub noted_told : filter_map notice_of new.objects.dead ≡ filter_map end_of_object (gone (moved old e c left x).stored.state new.objects.stored.state)

@@ -23,7 +23,7 @@ use Rattle.object_store.specs.Ends.{notice_of}
 use Rattle.object_store.specs.Gathers.{IsLeft, buried}
 use Rattle.object_store.proofs.DeadSteps.{has_key}
 use Rattle.object_store.specs.Kept.{CountsItsObjects, Stored, number_at}
-use Rattle.object_steps.specs.Objects.{Objects, with_state}
+use Rattle.object_steps.specs.Objects.{Objects, with_places, with_state}
 use Rattle.object_steps.specs.Resting.{Follows}
 use Rattle.object_steps.proofs.Rested.{ends_told}
 use Rattle.object_steps.proofs.Tellables.{fewer_told, plain_tellable}
@@ -86,6 +86,7 @@ same_kept old worlds p same = record {
   built = p.built;
   over = p.over;
   places = p.places;
+  stops = p.stops;
 }
 
 -- a world that is prepared was not kept
@@ -231,8 +232,9 @@ module _ (old : Inside) (actor f : ℕ) (p : AreParts old) (legal : Legal (old.h
       load_is : IsLoaded (old.history ++ render_of actor f ∷ []) t.cargo
       load_is = subst (IsLoaded (old.history ++ render_of actor f ∷ [])) (sym takes.cargo) (render_loaded old.history actor f load once_after scene_after (subst (λ o. IsSceneWithin (scene o f)) same_objects within))
 
-      pub rendered_parts : IsStanding old → length old.history + length old.flights.future.flights + 2 < old.room → AreParts new
-      rendered_parts stands place = parts_after old new (render_of actor f) moved_now mid p no_close follows_now counted_moved counted is_left is_buried departed grown
+      pub rendered_parts : IsStanding old → length old.history + length old.flights.future.flights + 2 < old.room
+          → length old.flights.future.flights + 1 < old.objects.stored.places → AreParts new
+      rendered_parts stands place stop_place = parts_after old new (render_of actor f) moved_now mid p no_close follows_now counted_moved counted is_left is_buried departed grown
           (subst (λ fs. Flown (old.history ++ render_of actor f ∷ []) (runs_of fs)) (sym frames_are)
           (subst (Flown (old.history ++ render_of actor f ∷ [])) (sym (runs_more old.flights.future.flights ∙ ap (λ r. runs_of old.flights.future.flights ++ r ∷ []) run))
           (render_adds old.history actor f (runs_of old.flights.future.flights) legal p.flown)))
@@ -248,6 +250,9 @@ module _ (old : Inside) (actor f : ℕ) (p : AreParts old) (legal : Legal (old.h
           (let longer = ap length grown ∙ length-append old.history (render_of actor f ∷ []) in
           let count = ap length frames_are ∙ length-append old.flights.future.flights (flight ∷ []) in
           omega (arith, place, longer, count, room))
+          (let count = ap length frames_are ∙ length-append old.flights.future.flights (flight ∷ []) in
+          let left = is_left.places in
+          omega (arith, stop_place, count, left))
 
       asks_read : (c : Channel) → asks_in objects f c ≡ asks_for (after old.history).state f c
       asks_read c = ap (λ o. asks_in o f c) same_objects ∙ ap asks (at_map scene_object f (after old.history).state.objects) ∙ by (object_at (after old.history).state f)
@@ -304,8 +309,8 @@ module _ (old : Inside) (actor f : ℕ) (p : AreParts old) (legal : Legal (old.h
       }
 
 -- room that was made before a flight began changes nothing of it
-pub begun_before : (f room : ℕ) (old new : Inside) → HasBegun f (record old { room = room }) new → HasBegun f old new
-begun_before f room old new b = record {
+pub begun_before : (f room places : ℕ) (old new : Inside) → HasBegun f (record old { objects = with_places old.objects places; room = room }) new → HasBegun f old new
+begun_before f room places old new b = record {
   takeoff = b.takeoff;
   ticket = b.ticket;
   frame = b.frame;

@@ -62,4 +62,5 @@ stopped_parts old flights p stops = record {
   built = p.built;
   over = subst (AllOver old.history) (sym stops.over) p.over;
   places = subst (λ n. length old.history + n < old.room) (sym stops.count) p.places;
+  stops = subst (λ n. n < old.objects.stored.places) (sym stops.count) p.stops;
 }

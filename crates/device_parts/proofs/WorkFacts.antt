@@ -64,6 +64,9 @@ module _ (old : Inside) (t : ℕ) (f g : Flying) (there : flight_at old.flights.
   same : SameFrames old.flights.future (with_flight_at old.flights.future t g)
   same = flight_replaced old.flights.future t f g there (ap shape_of_flight touched)
 
+  count : length (with_flight_at old.flights.future t g).flights ≡ length old.flights.future.flights
+  count = seen_count old.flights.future (with_flight_at old.flights.future t g) (same_runs old.flights.future (with_flight_at old.flights.future t g) same)
+
   pub touched_parts : AreParts old → AreParts (record old { flights = new })
   touched_parts p = subst (λ (b : Books Load). AreParts (record old { flights = b })) (sym is) (record {
     rest = p.rest;
@@ -75,8 +78,8 @@ module _ (old : Inside) (t : ℕ) (f g : Flying) (there : flight_at old.flights.
     shown = p.shown;
     built = p.built;
     over = p.over;
-    places = subst (λ n. length old.history + n < old.room)
-        (sym (seen_count old.flights.future (with_flight_at old.flights.future t g) (same_runs old.flights.future (with_flight_at old.flights.future t g) same))) p.places;
+    places = subst (λ n. length old.history + n < old.room) (sym count) p.places;
+    stops = subst (λ n. n < old.objects.stored.places) (sym count) p.stops;
   })
 
   pub touched_stands : IsStanding old → IsStanding (record old { flights = new })

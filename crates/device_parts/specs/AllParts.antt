@@ -70,8 +70,9 @@ AreAboard (f ∷ fs) (c ∷ cs) = (scene_of_load c.kept ≡ scene_at_home f) × 
 -- What always holds: the objects rest where the history led, the flights are those of the history,
 -- each loaded as at its render, with its scene unless it is lent, and a note may follow; exactly the worlds are kept that are there
 -- and untouched since their last render, each as it would be prepared now; the builds are counted;
--- each render whose flight is gone is that of a flight that is over; and there is room for the note
--- of each flight, and for one entry more
+-- each render whose flight is gone is that of a flight that is over; there is room for the note of
+-- each flight, and for one entry more; and among the flights that were stopped there is a place for
+-- each that is there, and one more, so that a discard takes no memory
 pub record AreParts (i : Inside) : Type 0 where
   pub rest : IsAtRest i.objects.stored i.history
   pub flown : Flown i.history (runs_of i.flights.future.flights)
@@ -83,3 +84,4 @@ pub record AreParts (i : Inside) : Type 0 where
   pub built : i.builds ≡ builds i.history
   pub over : AllOver i.history i.flights.over
   pub places : length i.history + length i.flights.future.flights < i.room
+  pub stops : length i.flights.future.flights < i.objects.stored.places

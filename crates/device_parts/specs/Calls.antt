@@ -1,10 +1,9 @@
 -- What a call does to the parts of a device.
-use Rattle.std.specs.Prelude.{◌≡◌, ℕ, Bool, true, false, length, ◌<◌, ◌+◌, ◌≤◌, ◌++◌, ◌∷◌, [], Option, Some, None}
+use Rattle.std.specs.Prelude.{◌≡◌, ℕ, Bool, true, false, ◌+◌, ◌≤◌, ◌++◌, ◌∷◌, [], Option, Some, None}
 use Rattle.std.specs.List.{filter_map}
 use Rattle.flight_books.specs.Kept.{with_future}
 use Rattle.kept_worlds.specs.KeptMaps.{kept_at}
 use Rattle.object_store.specs.Ends.{notice_of}
-use Rattle.object_store.specs.Kept.{Stored}
 use Rattle.object_steps.specs.Objects.{one_if, takes_memory, tellable}
 use Rattle.seq_model.specs.Steps.{after}
 use Rattle.seq_model.specs.Told.{status_at, told_by}
@@ -66,11 +65,6 @@ is_short reply.Ready = true
 is_short (reply.NotReady given of) = true
 is_short (reply.Denied refused) = true
 is_short r = false
-
--- a discard may note that a flight is stopped, for which there is a place
-abbrev pub HasPlaceToStop : Call → Stored → Type 0
-HasPlaceToStop (DiscardFrame h) s = length s.state.stopped < s.places
-HasPlaceToStop call s = Unit {0}
 
 -- what becomes of the flights and pictures by it; of what died no picture is left
 abbrev pub AreMoved : Move → Inside → Inside → Type 0

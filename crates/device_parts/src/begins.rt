@@ -11,6 +11,7 @@ ghost use Rattle.kept_worlds.specs.KeptMaps.{kept_at, reach_at, shown_at};
 ghost use Rattle.kept_worlds.specs.LastKept.{AreKept, AreShown, is_there};
 ghost use Rattle.kind_tables.specs.Walks.{walk};
 ghost use Rattle.object_store.specs.Kept.{number_at};
+ghost use Rattle.object_steps.specs.Objects.{with_places};
 ghost use Rattle.picture_model.specs.Limits.{IsSceneWithin};
 ghost use Rattle.past_laws.specs.Worlds.{render_of};
 ghost use Rattle.scene_read.specs.Starts.{all_seen};
@@ -209,7 +210,8 @@ impl Parts {
     /// Renders a frame, as a call that was granted (ANARI 1.0 Specification, rendering frames), and
     /// enters it; these are the visits of the walk from the frame. Its flight begins, with claims of
     /// the frame's scene, and holds all that the scene reached; a world that had to be prepared is
-    /// kept. There are places in the journal for the entry and for the note of the flight.
+    /// kept. There are places in the journal for the entry and for the note of the flight, and one
+    /// for the flight itself among those that may be stopped.
     ///
     /// # Errors
     /// `NoMemory`; all is then as it was.
@@ -224,6 +226,8 @@ impl Parts {
         requires stands { IsStanding self.old }
         requires places { length self.old.history + length self.old.flights.future.flights + 2
             < self.old.room }
+        requires stop_place { length self.old.flights.future.flights + 1
+            < self.old.objects.stored.places }
         requires legal { Legal (self.old.history ++ render_of actor frame ∷ []) }
         requires seen { all_seen (scene_objects self.old.objects.stored.state) visits.now
             ≡ walk (scene_objects self.old.objects.stored.state) frame }
@@ -299,15 +303,27 @@ impl Parts {
         }
     }
 
-    /// Keeps the two places that a render takes beyond those that are kept already: that of its entry,
-    /// and that of the note of its flight.
+    /// Keeps the places that a render takes beyond those that are kept already: those of its entry
+    /// and of the note of its flight, and one for the flight, should it be stopped.
     ///
     /// # Errors
-    /// `NoMemory`; nothing has changed.
+    /// `NoMemory`; nothing has changed but for the room.
     fn keep_render_places(&mut self) -> Result<(), NoMemory>
-        ensures kept { OnOk result (self.new ≡ record self.old { room = self.old.room + 2 }) }
-        ensures refused { OnErr result (self.new ≡ self.old) }
+        ensures kept { OnOk result (self.new ≡ record self.old {
+          objects = with_places self.old.objects self.new.objects.stored.places;
+          room = self.old.room + 2;
+        }) }
+        ensures stop_place { OnOk result (length self.old.flights.future.flights + 1
+            < self.new.objects.stored.places) }
+        ensures refused { OnErr result (self.new ≡ record self.old {
+          objects = with_places self.old.objects self.new.objects.stored.places;
+        }) }
     {
+        // This flight's place, and one that stays free: a discard finds one whatever the frame shows.
+        let Some(stops) = self.flights.flight_count().checked_add(2) else {
+            return Err(NoMemory);
+        };
+        self.objects.make_places(stops)?;
         self.journal.add_places(2)
     }
 

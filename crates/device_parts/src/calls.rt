@@ -18,7 +18,7 @@ ghost use Rattle.seq_model.specs.declared.calls.Entry.TheVariants.{Called};
 ghost use Rattle.world_laws.specs.Alike.{Shown as ShownWorld};
 ghost use Rattle.device_laws.specs.FramesStand.{without_pictures};
 ghost use Rattle.device_laws.specs.Replies.{AreTold};
-ghost use Rattle.device_parts.specs.Calls.{AreMoved, HasEntered, HasPlaceToStop, HasRoomMade, move_of, touched_by};
+ghost use Rattle.device_parts.specs.Calls.{AreMoved, HasEntered, HasRoomMade, move_of, touched_by};
 ghost use Rattle.device_parts.specs.Standing.{IsStanding};
 
 use crate::burials::bury;
@@ -74,7 +74,7 @@ impl Parts {
         ensures err { OnErr result (HasRoomMade self.old self.new) }
         ensures no_memory { needs_no_memory call ≡ true
             → length self.old.history + length self.old.flights.future.flights + 1 < self.old.room
-            → HasPlaceToStop call self.old.objects.stored → IsOk result }
+            → IsOk result }
     {
         let Ok(()) = self.make_places(1) else {
             return Err((NoMemory, call, with));
@@ -141,8 +141,7 @@ impl Parts {
             (entered (after self.old.history) call) r.0 self.old.objects.stored.state with) }
         ensures returned { IfErr result (λ e. (e.1 ≡ call) × (e.2 ≡ with)) }
         ensures err { OnErr result (HasRoomMade self.old self.new) }
-        ensures no_memory { needs_no_memory call ≡ true
-            → HasPlaceToStop call self.old.objects.stored → IsOk result }
+        ensures no_memory { needs_no_memory call ≡ true → IsOk result }
     {
         self.are_parts();
         let Ok(decided) = self.decide(alloc, &call) else {
@@ -158,10 +157,10 @@ impl Parts {
                 Ok(out) => Ok((answer, out)),
                 Err((none, entry, with)) => Err((none, made.unwrap_or(entry), with)),
             },
-            Move::Discard(h) => match self.enter_discard(actor, h) {
-                Ok(()) => Ok((answer, with)),
-                Err(none) => Err((none, made.unwrap_or(entry), with)),
-            },
+            Move::Discard(h) => {
+                self.enter_discard(actor, h);
+                Ok((answer, with))
+            }
             Move::Unmap(h, number) => {
                 self.enter_unmap(actor, h, number);
                 Ok((answer, with))

@@ -8,7 +8,7 @@ ghost use Rattle.object_steps.specs.Carrying.{handed};
 ghost use Rattle.seq_model.specs.Answers.{answer};
 ghost use Rattle.seq_model.specs.Contents.{entered};
 ghost use Rattle.seq_model.specs.Steps.{after};
-ghost use Rattle.device_parts.specs.Calls.{AreMoved, HasEntered, HasPlaceToStop, HasRoomMade, move_of};
+ghost use Rattle.device_parts.specs.Calls.{AreMoved, HasEntered, HasRoomMade, move_of};
 ghost use Rattle.device_parts.specs.Looks.{AreShort};
 ghost use Rattle.device_parts.specs.Makes.{Hands, IsMoved, LeavesFrame, LendsChannel, array_of, begun_by, frame_left, frame_of, told_as};
 ghost use Rattle.device_parts.specs.Standing.{IsStanding};
@@ -28,8 +28,7 @@ impl Parts {
     /// # Errors
     /// `NoMemory`; the call and the loan come back, and nothing has changed but for the room. Retain,
     /// release, a question whether a frame is ready, a discard and the unmap of a frame's channel
-    /// never answer it where the journal has a place for the call, and for a discard where there is
-    /// one for the flight that it stops.
+    /// never answer it where the journal has a place for the call.
     pub fn make(
         &mut self,
         alloc: Global,
@@ -66,7 +65,7 @@ impl Parts {
         ensures err { OnErr result (HasRoomMade self.old self.new) }
         ensures no_memory { needs_no_memory call ≡ true
             → length self.old.history + length self.old.flights.future.flights + 1 < self.old.room
-            → HasPlaceToStop call self.old.objects.stored → IsOk result }
+            → IsOk result }
     {
         match call {
             Call::RenderFrame { h } => match self.render_or_refuse(alloc, actor, h) {
@@ -115,7 +114,7 @@ impl Parts {
         ensures err { OnErr result (HasRoomMade self.old self.new) }
         ensures no_memory { needs_no_memory call ≡ true
             → length self.old.history + length self.old.flights.future.flights + 1 < self.old.room
-            → HasPlaceToStop call self.old.objects.stored → IsOk result }
+            → IsOk result }
     {
         let (array, frame) = parted(with);
         match self.call(alloc, actor, call, array) {

@@ -59,8 +59,11 @@ impl Parts {
         ensures stands { IfOk result IsStanding }
     {
         let journal = EntryLog::new(alloc)?;
+        let mut objects = ObjectStore::new(alloc);
+        // A discard finds a free place among the stopped flights whatever the frame shows.
+        objects.make_places(1)?;
         Ok(Parts {
-            objects: ObjectStore::new(alloc),
+            objects,
             flights: FlightBooks::new(alloc),
             worlds: KeptWorlds::new(alloc),
             journal,

@@ -6,7 +6,7 @@ use Rattle.seq_model.specs.State.{State, object_at}
 use Rattle.seq_model.specs.declared.calls.Call.TheVariants.{DiscardFrame, UnmapFrame}
 use Rattle.seq_model.specs.declared.calls.Entry.TheVariants.{Called}
 use Rattle.seq_model.specs.declared.calls.Reply.TheVariants as reply
-use Rattle.device_parts.specs.Calls.{HasPlaceToStop, move_of}
+use Rattle.device_parts.specs.Calls.{move_of}
 use Rattle.device_parts.specs.declared.calls.Move.TheVariants as move
 use Rattle.device_laws.proofs.GrantFacts.{discard_starts}
 use Rattle.seq_model.specs.Answers.{answer}
@@ -98,8 +98,8 @@ enter_unmap-requires-clause-legal c =
     let none = done_is_granted (after i.history) (UnmapFrame c.in-Unmap.h c.in-Unmap.number) (ap (answer (after i.history)) (sym call.0) ∙ answered ∙ ap Some call.1) in
     subst (λ call. Legal (i.history ++ Called c.args.actor call reply.Done ∷ [])) call.0 (subst (λ r. Legal (i.history ++ Called c.args.actor c.parted-entry.result.0 r ∷ [])) call.1 (legal i.objects.stored i.history c.are_parts.ensures.rest c.requires.stands.frames.open_ c.args.call c.parted-entry.result.0 c.in-Ok.decided.reply c.requires.quiet is answered c.args.actor))
 
-pub returns-in-Ok-enter_discard-clause-handed : goal.returns-in-Ok-enter_discard-clause-handed
-returns-in-Ok-enter_discard-clause-handed c =
+pub returns-in-Discard-clause-handed : goal.returns-in-Discard-clause-handed
+returns-in-Discard-clause-handed c =
     let i = c.args.self.now in
     let is : c.parted-entry.result.0 ≡ entered (after i.history) c.args.call = c.parted-entry.ensures.entry ∙ c.in-Ok.ensures.entered in
     let moves : move_of (entered (after i.history) c.args.call) c.in-Ok-share.answer ≡ move.Discard c.in-Discard.h =
@@ -115,20 +115,13 @@ returns-in-Unmap-clause-handed c =
     moved_hands (after i.history) (length i.history + 1) i.objects.stored.state c.args.call c.in-Ok-share.answer c.args.with (λ still. let wrong : move.Nothing ≡ move.Unmap c.in-Unmap.h c.in-Unmap.number = sym still ∙ moves in absurd cc) c.requires.brings
 
 pub returns-in_default-share-clause-no_memory : goal.returns-in_default-share-clause-no_memory
-returns-in_default-share-clause-no_memory c = λ needs place.
+returns-in_default-share-clause-no_memory c = λ needs.
     let past = after c.args.self.now.history in
     let same : unwrap_or c.in-Ok.decided.cleaned c.args.call ≡ c.args.call = c.in-Ok.ensures.entered ∙ plain_entered past c.args.call needs in
     c.in_default-share.ensures.no_memory (short_answer past c.args.call c.in-Ok.decided.reply needs (ap (answer past) (sym same) ∙ c.in-Ok.ensures.answered))
 
 pub returns-in-Err-clause-no_memory : goal.returns-in-Err-clause-no_memory
-returns-in-Err-clause-no_memory c = λ needs place.
+returns-in-Err-clause-no_memory c = λ needs.
     let same : c.parted-entry.result.0 ≡ c.args.call =
     c.parted-entry.ensures.entry ∙ c.in-Ok.ensures.entered ∙ plain_entered (after c.args.self.now.history) c.args.call needs in
     c.in-Err.ensures.no_memory (ap needs_no_memory same ∙ needs)
-
-pub returns-in-Err-enter_discard-clause-no_memory : goal.returns-in-Err-enter_discard-clause-no_memory
-returns-in-Err-enter_discard-clause-no_memory c = λ needs place.
-    let same : c.parted-entry.result.0 ≡ c.args.call =
-    c.parted-entry.ensures.entry ∙ c.in-Ok.ensures.entered ∙ plain_entered (after c.args.self.now.history) c.args.call needs in
-    let call = discard_is c.parted-entry.result.0 c.in-Ok.decided.reply c.in-Discard.h (sym c.move_of.ensures ∙ c.in-Discard.is) in
-    c.in-Err-enter_discard.ensures.had_room (subst (λ k. HasPlaceToStop k c.args.self.now.objects.stored) (sym same ∙ call.0) place)

@@ -21,7 +21,7 @@ use Rattle.device_parts.specs.AllParts.{Inside, shown_by}
 use Rattle.device_parts.specs.Calls.{HasEntered}
 use Rattle.device_parts.specs.Standing.{IsStanding}
 use Rattle.device_parts.specs.declared.loads.Load.{Load}
-use Rattle.device_parts.proofs.CalledFacts.{called_enters, called_leaves, called_parts, moved, moved_aboard, moved_flown, moved_follows, moved_stands, no_render}
+use Rattle.device_parts.proofs.CalledFacts.{called_enters, called_leaves, called_parts, moved, moved_aboard, moved_flown, moved_follows, moved_places, moved_stands, no_render}
 use Rattle.device_parts.proofs.parts.Parts.enter_call.Goals as goal
 
 pub bury-requires-clause-ranked : goal.bury-requires-clause-ranked
@@ -63,7 +63,7 @@ invariant_of-self-2 c =
     (c.touch.ensures.known old.history c.args.actor (is_there old.history) c.self.invariant.kept)
     (c.touch.ensures.shown shown_by old.history c.self.invariant.shown)
     c.bury.ensures.forgotten c.bury.ensures.known refl c.push_reserved.ensures.room
-    (subst IsStanding (sym c.self.view_is) c.requires.stands) (subst (λ (i : Inside). length i.history + length i.flights.future.flights + 1 < i.room) (sym c.self.view_is) c.requires.place)
+    (subst IsStanding (sym c.self.view_is) c.requires.stands) (subst (λ (i : Inside). length i.history + length i.flights.future.flights + 1 < i.room) (sym c.self.view_is) c.requires.place) (moved_places old c.args.actor c.args.call c.args.reply c.self.invariant c.requires.of_objects)
 
 pub returns-clause-entered : goal.returns-clause-entered
 returns-clause-entered c =

@@ -1,4 +1,4 @@
-use Rattle.std.proofs.Common.{◌≡◌, ◌∙◌, ℕ, true, ◌+◌, ◌<◌, ◌++◌, ◌∷◌, [], length, refl, sym, ap, subst}
+use Rattle.std.proofs.Common.{◌≡◌, ◌∙◌, ℕ, false, true, ◌+◌, ◌<◌, ◌++◌, ◌∷◌, [], length, refl, sym, ap, subst}
 use Rattle.std.specs.Prelude.{slice_index_or}
 use Rattle.frame_future.specs.Flights.{Flying}
 use Rattle.device_laws.proofs.FramesStandFacts.{fewer_kept}
@@ -25,6 +25,7 @@ use Rattle.device_parts.specs.Standing.{IsStanding}
 use Rattle.device_parts.specs.declared.loads.Load.{Load}
 use Rattle.device_parts.proofs.CalledFacts.{called_enters, called_leaves, called_parts}
 use Rattle.device_parts.proofs.DiscardFacts.{discard_aboard, discard_flies, discard_follows, discard_stands, discard_tells, moved}
+use Rattle.device_parts.proofs.RoomFacts.{stop_place}
 use Rattle.device_parts.proofs.parts.Parts.enter_discard.Goals as goal
 
 pub bury-requires-clause-ranked : goal.bury-requires-clause-ranked
@@ -32,16 +33,22 @@ bury-requires-clause-ranked c =
     let old : Inside = record { objects = c.self.inside.objects; flights = c.self.inside.flights; worlds = c.self.inside.worlds; history = c.self.inside.journal.items; room = c.self.inside.journal.room; builds = c.self.inside.builds } in
     let legal = subst (λ (i : Inside). Legal (i.history ++ Called c.args.actor (DiscardFrame c.args.h) reply.Done ∷ [])) (sym c.self.view_is) c.requires.legal in
     let next : Stored = moved old c.args.actor c.args.h c.discard.new.self.stored.places c.self.invariant legal in
-    let moves : c.discard.new.self.stored ≡ next = ap (λ (o : Objects). o.stored) c.in_ok-discard.ensures.ok in
+    let moves : c.discard.new.self.stored ≡ next = ap (λ (o : Objects). o.stored) c.in-Ok.ensures.ok in
     subst (λ (s : Stored). IsRanked s.state.objects) (sym moves) (ranked old.history (Called c.args.actor (DiscardFrame c.args.h) reply.Done) next (discard_follows old c.args.actor c.args.h c.discard.new.self.stored.places c.self.invariant legal))
 
-pub invariant_of-self-2 : goal.invariant_of-self-2
-invariant_of-self-2 c =
+pub unreachable-requires : goal.unreachable-requires
+unreachable-requires c =
+    let old : Inside = record { objects = c.self.inside.objects; flights = c.self.inside.flights; worlds = c.self.inside.worlds; history = c.self.inside.journal.items; room = c.self.inside.journal.room; builds = c.self.inside.builds } in
+    let wrong : false ≡ true = c.in_default.ensures.had_room (stop_place old c.self.invariant (subst IsKept c.frames.ensures.value c.are_kept.ensures)) in
+    absurd cc
+
+pub invariant_of-self : goal.invariant_of-self
+invariant_of-self c =
     let old : Inside = record { objects = c.self.inside.objects; flights = c.self.inside.flights; worlds = c.self.inside.worlds; history = c.self.inside.journal.items; room = c.self.inside.journal.room; builds = c.self.inside.builds } in
     let new : Inside = record { objects = c.bury.new.objects; flights = c.bury.new.flights; worlds = c.bury.new.worlds; history = c.push_reserved.new.self.items; room = c.push_reserved.new.self.room; builds = c.self.inside.builds } in
     let legal = subst (λ (i : Inside). Legal (i.history ++ Called c.args.actor (DiscardFrame c.args.h) reply.Done ∷ [])) (sym c.self.view_is) c.requires.legal in
     let next : Stored = moved old c.args.actor c.args.h c.discard.new.self.stored.places c.self.invariant legal in
-    let moves : c.discard.new.self.stored ≡ next = ap (λ (o : Objects). o.stored) c.in_ok-discard.ensures.ok in
+    let moves : c.discard.new.self.stored ≡ next = ap (λ (o : Objects). o.stored) c.in-Ok.ensures.ok in
     let kept = subst IsKept c.frames.ensures.value c.are_kept.ensures in
     let left = ap (λ (b : Books Load). b.future) c.bury.ensures.flights in
     called_parts old new c.args.actor (DiscardFrame c.args.h) reply.Done next old.worlds c.self.invariant
@@ -59,6 +66,7 @@ invariant_of-self-2 c =
     c.self.invariant.shown
     c.bury.ensures.forgotten c.bury.ensures.known refl c.push_reserved.ensures.room
     (subst IsStanding (sym c.self.view_is) c.requires.stands) (subst (λ (i : Inside). length i.history + length i.flights.future.flights + 1 < i.room) (sym c.self.view_is) c.requires.place)
+    c.discard.ensures.grows
 
 pub returns-clause-entered : goal.returns-clause-entered
 returns-clause-entered c =
@@ -66,7 +74,7 @@ returns-clause-entered c =
     let new : Inside = record { objects = c.bury.new.objects; flights = c.bury.new.flights; worlds = c.bury.new.worlds; history = c.push_reserved.new.self.items; room = c.push_reserved.new.self.room; builds = c.self.inside.builds } in
     let legal = subst (λ (i : Inside). Legal (i.history ++ Called c.args.actor (DiscardFrame c.args.h) reply.Done ∷ [])) (sym c.self.view_is) c.requires.legal in
     let next : Stored = moved old c.args.actor c.args.h c.discard.new.self.stored.places c.self.invariant legal in
-    let moves : c.discard.new.self.stored ≡ next = ap (λ (o : Objects). o.stored) c.in_ok-discard.ensures.ok in
+    let moves : c.discard.new.self.stored ≡ next = ap (λ (o : Objects). o.stored) c.in-Ok.ensures.ok in
     let kept = subst IsKept c.frames.ensures.value c.are_kept.ensures in
     let left = ap (λ (b : Books Load). b.future) c.bury.ensures.flights in
     let notices = c.bury.ensures.notices ∙ ap (λ (s : Stored). filter_map end_of_object (gone s.state c.bury.new.objects.stored.state)) moves in
@@ -93,7 +101,7 @@ returns-clause-stands c =
     let new : Inside = record { objects = c.bury.new.objects; flights = c.bury.new.flights; worlds = c.bury.new.worlds; history = c.push_reserved.new.self.items; room = c.push_reserved.new.self.room; builds = c.self.inside.builds } in
     let legal = subst (λ (i : Inside). Legal (i.history ++ Called c.args.actor (DiscardFrame c.args.h) reply.Done ∷ [])) (sym c.self.view_is) c.requires.legal in
     let next : Stored = moved old c.args.actor c.args.h c.discard.new.self.stored.places c.self.invariant legal in
-    let moves : c.discard.new.self.stored ≡ next = ap (λ (o : Objects). o.stored) c.in_ok-discard.ensures.ok in
+    let moves : c.discard.new.self.stored ≡ next = ap (λ (o : Objects). o.stored) c.in-Ok.ensures.ok in
     let kept = subst IsKept c.frames.ensures.value c.are_kept.ensures in
     let left = ap (λ (b : Books Load). b.future) c.bury.ensures.flights in
     discard_stands old c.args.actor c.args.h c.discard.new.self.stored.places c.self.invariant legal new c.discard-2.new.self.future c.push_reserved.ensures.items kept c.discard-2.ensures.discarded left

@@ -304,6 +304,7 @@ invariant_of-self-2 c =
     (c.in_ok-begin_kept.ensures.shown old.history f wanted_after p.shown)
     c.bury.ensures.forgotten c.bury.ensures.known counts exactly c.push_reserved.ensures.room
     stands (subst (λ (i : Inside). length i.history + length i.flights.future.flights + 2 < i.room) (sym c.self.view_is) c.requires.places)
+    (subst (λ (i : Inside). length i.flights.future.flights + 1 < i.objects.stored.places) (sym c.self.view_is) c.requires.stop_place)
 
 pub returns-clause-entered : goal.returns-clause-entered
 returns-clause-entered c =

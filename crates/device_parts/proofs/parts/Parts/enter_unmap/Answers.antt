@@ -1,3 +1,4 @@
+use Rattle.std.proofs.Math.Nat.{le_refl}
 use Rattle.std.proofs.Common.{◌≡◌, ◌∙◌, ℕ, true, ◌+◌, ◌<◌, ◌++◌, ◌∷◌, [], None, Some, length, refl, sym, ap, subst}
 use Rattle.std.specs.Prelude.{slice_index_or}
 use Rattle.std.specs.List.{filter_map}
@@ -70,7 +71,7 @@ invariant_of-self c =
     (stay_known old.history (Called c.args.actor (UnmapFrame c.args.h c.args.number) reply.Done) (is_there old.history) (reach_at old.worlds) refl (λ objects. refl) c.self.invariant.kept)
     c.self.invariant.shown
     c.bury.ensures.forgotten c.bury.ensures.known refl c.push_reserved.ensures.room
-    (subst IsStanding (sym c.self.view_is) c.requires.stands) (subst (λ (i : Inside). length i.history + length i.flights.future.flights + 1 < i.room) (sym c.self.view_is) c.requires.place)
+    (subst IsStanding (sym c.self.view_is) c.requires.stands) (subst (λ (i : Inside). length i.history + length i.flights.future.flights + 1 < i.room) (sym c.self.view_is) c.requires.place) (le_refl old.objects.stored.places)
 
 pub returns-clause-entered : goal.returns-clause-entered
 returns-clause-entered c =

@@ -1,9 +1,11 @@
-use Rattle.std.proofs.Common.{◌≡◌, ◌+◌, ◌<◌, [], length, refl, sym, subst, arith}
+use Rattle.std.proofs.Common.{◌≡◌, ◌∙◌, ◌+◌, ◌<◌, [], length, refl, sym, ap, subst, arith}
 use Rattle.seq_model.specs.declared.calls.Entry.{Entry}
 use Rattle.std.specs.List.{AllByRecursion}
 use Rattle.frame_future.specs.Future.{Future}
 use Rattle.kept_worlds.specs.KeptMaps.{Worlds, shown_at}
 use Rattle.kept_worlds.specs.LastKept.{AreShown, is_there}
+use Rattle.object_store.specs.Kept.{Stored}
+use Rattle.object_steps.specs.Objects.{Objects}
 use Rattle.object_steps.specs.Resting.{IsAtRest}
 use Rattle.object_steps.proofs.Starts.{rests_first}
 use Rattle.seq_model.specs.Builds.{builds}
@@ -29,25 +31,29 @@ built_first = refl
 
 pub invariant_of-result : goal.invariant_of-result
 invariant_of-result c =
-    let rest : IsAtRest c.new-2.result.stored [] = rests_first c.new-2.result.stored c.new-2.ensures.state c.new-2.ensures.public c.new-2.ensures.holds in
+    let same = ap (λ (o : Objects). o.stored) c.make_places.ensures.places in
+    let rest : IsAtRest c.make_places.new.self.stored [] = rests_first c.make_places.new.self.stored
+    (ap (λ (s : Stored). s.state) same ∙ c.new-objects.ensures.state) (ap (λ (s : Stored). s.public) same ∙ c.new-objects.ensures.public) (ap (λ (s : Stored). s.holds) same ∙ c.new-objects.ensures.holds) in
     let history : [] ≡ c.in_ok-journal.journal.items = sym c.in_ok-journal.ensures.items in
-    subst (λ h. AreParts (record { objects = c.new-2.result; flights = c.new-3.result; worlds = c.new-4.result; history = h; room = c.in_ok-journal.journal.room; builds = 0 })) history
+    subst (λ h. AreParts (record { objects = c.make_places.new.self; flights = c.new-2.result; worlds = c.new-3.result; history = h; room = c.in_ok-journal.journal.room; builds = 0 })) history
     (record {
       rest = rest;
-      flown = subst (λ (s : Future). Flown [] (runs_of s.flights)) (sym c.new-3.ensures.future) first_flown;
-      loaded = subst (AllByRecursion (IsLoaded [])) (sym c.new-3.ensures.cargo) tt;
-      aboard = subst (λ (s : Future). AreAboard s.flights c.new-3.result.cargo) (sym c.new-3.ensures.future) (subst (AreAboard []) (sym c.new-3.ensures.cargo) tt);
+      flown = subst (λ (s : Future). Flown [] (runs_of s.flights)) (sym c.new-2.ensures.future) first_flown;
+      loaded = subst (AllByRecursion (IsLoaded [])) (sym c.new-2.ensures.cargo) tt;
+      aboard = subst (λ (s : Future). AreAboard s.flights c.new-2.result.cargo) (sym c.new-2.ensures.future) (subst (AreAboard []) (sym c.new-2.ensures.cargo) tt);
       lets = lets_first;
-      kept = c.new-4.ensures.known (is_there []);
-      shown = subst (λ (w : Worlds World). AreShown [] (shown_at shown_by w)) (sym c.new-4.ensures.empty) (λ _. tt);
+      kept = c.new-3.ensures.known (is_there []);
+      shown = subst (λ (w : Worlds World). AreShown [] (shown_at shown_by w)) (sym c.new-3.ensures.empty) (λ _. tt);
       built = built_first;
-      over = subst (AllOver []) (sym c.new-3.ensures.over) none_over;
-      places = subst (λ (s : Future). length {A = Entry} [] + length s.flights < c.in_ok-journal.journal.room) (sym c.new-3.ensures.future)
+      over = subst (AllOver []) (sym c.new-2.ensures.over) none_over;
+      places = subst (λ (s : Future). length {A = Entry} [] + length s.flights < c.in_ok-journal.journal.room) (sym c.new-2.ensures.future)
           (let one = c.in_ok-journal.ensures.room in omega (arith, one));
+      stops = subst (λ (s : Future). length s.flights < c.make_places.new.self.stored.places) (sym c.new-2.ensures.future)
+          (let room = c.in_ok-make_places.ensures.room in omega (arith, room));
     })
 
 pub returns-clause-stands : goal.returns-clause-stands
 returns-clause-stands c = record {
-  frames = subst (λ h. FramesStand h c.new-3.result.future) (sym c.in_ok-journal.ensures.items) (subst (FramesStand []) (sym c.new-3.ensures.future) frames_first);
-  told = subst (λ (s : Future). AreTold c.in_ok-journal.journal.items s.flights) (sym c.new-3.ensures.future) tt;
+  frames = subst (λ h. FramesStand h c.new-2.result.future) (sym c.in_ok-journal.ensures.items) (subst (FramesStand []) (sym c.new-2.ensures.future) frames_first);
+  told = subst (λ (s : Future). AreTold c.in_ok-journal.journal.items s.flights) (sym c.new-2.ensures.future) tt;
 }

@@ -44,6 +44,7 @@ unended old flights p runs count cargo over aboard = record {
   built = p.built;
   over = subst (AllOver old.history) (sym over) p.over;
   places = subst (λ n. length old.history + n < old.room) (sym count) p.places;
+  stops = subst (λ n. n < old.objects.stored.places) (sym count) p.stops;
 }
 
 pub invariant_of-self : goal.invariant_of-self

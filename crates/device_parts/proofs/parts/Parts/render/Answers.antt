@@ -14,5 +14,5 @@ enter_render-requires-clause-legal c =
 
 pub returns-in-Ok-clause-begun : goal.returns-in-Ok-clause-begun
 returns-in-Ok-clause-begun c =
-    begun_before c.args.frame (c.args.self.now.room + 2) c.args.self.now c.enter_render.new.self
+    begun_before c.args.frame (c.args.self.now.room + 2) c.keep_render_places.new.self.objects.stored.places c.args.self.now c.enter_render.new.self
     (subst (λ (i : Inside). HasBegun c.args.frame i c.enter_render.new.self) c.in_ok-keep_render_places.ensures.kept c.in-Ok.ensures.begun)
