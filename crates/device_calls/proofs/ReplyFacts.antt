@@ -6,6 +6,7 @@ use Rattle.answered_calls.specs.Tells.{with_given}
 use Rattle.dev_types.specs.declared.answers.ParamInfo.{ParamInfo}
 use Rattle.dev_types.specs.declared.answers.Ready.{Ready}
 use Rattle.dev_types.specs.declared.data_types.DataType.{DataType}
+use Rattle.dev_types.specs.declared.handles.Origin.{Origin}
 use Rattle.dev_types.specs.declared.refusals.Refused.{Refused}
 use Rattle.dev_types.specs.declared.refusals.Refused.TheVariants.{InFlight}
 use Rattle.dev_types.specs.declared.values.Value.{Value}
@@ -164,6 +165,14 @@ pub object_made : (t : DataType) (subtype : List ℕ) (r : Reply) (old new : Dev
     → ((refused : Refused) → r ≡ reply.Denied refused → ⊥) → (h : ℕ) × (r ≡ reply.Made h)
 object_made t subtype r old new made granting =
     let told = is_granted (NewObject t subtype) r hand.Nothing made.before tt made.reply granting in ((after made.before).state.next, some_is told.1)
+  where
+    some_is : {a : Reply} → Some a ≡ Some r → r ≡ a
+    some_is same = cc
+
+pub array_made : (elem : DataType) (count stride : ℕ) (origin : Origin) (bytes : List ℕ) (r : Reply) (old new : DevicePass) → HasMade (NewArray elem count stride origin bytes) r old new
+    → ((refused : Refused) → r ≡ reply.Denied refused → ⊥) → (h : ℕ) × (r ≡ reply.Made h)
+array_made elem count stride origin bytes r old new made granting =
+    let told = is_granted (NewArray elem count stride origin bytes) r hand.Nothing made.before tt made.reply granting in ((after made.before).state.next, some_is told.1)
   where
     some_is : {a : Reply} → Some a ≡ Some r → r ≡ a
     some_is same = cc

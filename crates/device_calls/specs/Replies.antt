@@ -66,6 +66,6 @@ HasMade call r old new = HasCalled call handed.Nothing r handed.Nothing old new
 abbrev pub IsRefused : Call → Refused → DevicePass → DevicePass → Type 0
 IsRefused call e old new = HasDeclined call e old new ⊎ HasMade call (reply.Denied e) old new
 
--- it was refused so, or there was no memory for the work of others, and it was not made
+-- it was refused so, or there was no memory for what it takes beside its entry (the work of others, the bytes of an array), and it was not made
 abbrev pub WasRefused : Call → Refused → DevicePass → DevicePass → Type 0
 WasRefused call e old new = IsRefused call e old new ⊎ ((e ≡ NoMemory) × (mine new ≡ mine old))

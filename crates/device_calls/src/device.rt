@@ -112,12 +112,14 @@ impl<C: Client> Device<C> {
         reserved
     }
 
-    /// Makes a call that does not wait for a flight, in one hold.
+    /// Makes a call, as a value, in one hold; one that waits for a flight is made by
+    /// [`Device::ready_with`]. The loan that it ends goes with it; the loan that it hands out, or
+    /// that a refused unmap gives back, comes with the reply.
     ///
     /// # Errors
     /// `JournalFull` exactly where the journal has no place left for the call and what it owes, else
     /// `NoMemory`; the call and the loan come back.
-    pub(crate) fn make<R: Wait>(
+    pub fn make<R: Wait>(
         &self,
         rt: &R,
         alloc: Global,

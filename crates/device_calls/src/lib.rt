@@ -2,6 +2,7 @@
 #![tactic(auto)]
 
 mod arrays;
+mod births;
 mod close;
 mod device;
 mod fixed;
