@@ -46,12 +46,12 @@ parameter_roomy past h name elem count none =
     (not_first (is_element_type elem) _ (does_not_apply _ _ none.1.1.0), not_less most_bytes (count * byte_size elem) (does_not_apply _ _ none.1.1.1.1.0))
 
 -- a call that maps no array hands out no loan of one
-abbrev maps_array : Call → Bool
+abbrev pub maps_array : Call → Bool
 maps_array (MapArray h) = true
 maps_array (MapParameterArray h name elem count) = true
 maps_array call = false
 
-nothing_for : (place : ℕ) (call : Call) (r : Reply) (s : State) → maps_array call ≡ false → handed place call r s loan.Nothing ≡ loan.Nothing
+pub nothing_for : (place : ℕ) (call : Call) (r : Reply) (s : State) → maps_array call ≡ false → handed place call r s loan.Nothing ≡ loan.Nothing
 nothing_for place (MapArray h) r s not_ = absurd cc
 nothing_for place (MapParameterArray h name elem count) r s not_ = absurd cc
 nothing_for place call (reply.Denied refused) s not_ = refl

@@ -155,11 +155,11 @@ record PhasesRan (number : ℕ) (known : List Binding) (phases : List Phase) (r 
   past : (fold phase_replayed r (enumerate_from number phases)).past ≡ gone_on r.past added
   goes : (tail : History) → AreOfFirst 0 tail → GoesThrough number known r.past phases (added ++ tail)
 
-nothing_left : (number : ℕ) (known : List Binding) (past : Past) (tail : History) → AreOfFirst 0 tail → GoesThrough number known past [] tail
+pub nothing_left : (number : ℕ) (known : List Binding) (past : Past) (tail : History) → AreOfFirst 0 tail → GoesThrough number known past [] tail
 unfolding GoesThrough
 nothing_left number known past tail alone = alone
 
-one_phase : (number : ℕ) (known : List Binding) (past : Past) (phase : Phase) (phases : List Phase) (h : History) (begins : BeginsWith number known past phase.callers h) →
+pub one_phase : (number : ℕ) (known : List Binding) (past : Past) (phase : Phase) (phases : List Phase) (h : History) (begins : BeginsWith number known past phase.callers h) →
     GoesThrough (number + 1) (known ++ begins.bound) (gone_on past begins.part) phases begins.rest → GoesThrough number known past (phase ∷ phases) h
 unfolding GoesThrough
 one_phase number known past phase phases h begins goes = (begins, goes)
@@ -203,7 +203,7 @@ left_are_none : (tickets : List ℕ) → AreOfFirst 0 (map Left tickets)
 left_are_none [] = All-nil (IsBelow 0)
 left_are_none (t ∷ tickets) = All-cons (IsBelow 0) (Left t) (map Left tickets) tt (left_are_none tickets)
 
-last_is : (h : History) (e : Entry) (other : Option Entry) → last_or other (h ++ e ∷ []) ≡ Some e
+pub last_is : (h : History) (e : Entry) (other : Option Entry) → last_or other (h ++ e ∷ []) ≡ Some e
 last_is [] e other = refl
 last_is (x ∷ h) e other = last_is h e (Some x)
 
@@ -211,7 +211,7 @@ seen_is : (h : History) → (gone_on start h).seen ≡ h
 unfolding after
 seen_is h = seen_is_history h
 
-follows_by : (trace : Trace) (h : History) → GoesThrough 0 [] start trace.phases h → last_or None h ≡ Some Closed → Follows trace h
+pub follows_by : (trace : Trace) (h : History) → GoesThrough 0 [] start trace.phases h → last_or None h ≡ Some Closed → Follows trace h
 unfolding Follows
 follows_by trace h goes last = (goes, last)
 

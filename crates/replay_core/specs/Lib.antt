@@ -7,3 +7,4 @@ pub mod Solo
 pub mod Views
 pub mod Places
 pub mod Found
+pub mod Runs

@@ -37,6 +37,14 @@ impl BindingOrder {
         BindingOrder::any()
     }
 
+    // The order of two lists of bindings that these show.
+    fn of_both(_first: &BindingOrder, _second: &BindingOrder) -> BindingOrder
+        ghost list: { List Binding }
+        ensures { result.list ≡ list }
+    {
+        BindingOrder::any()
+    }
+
     /// No binding.
     pub(crate) fn none() -> BindingOrder
         ensures { result.list ≡ [] }
@@ -49,6 +57,13 @@ impl BindingOrder {
         ensures { result.list ≡ self.now.list ++ binding.now ∷ [] }
     {
         BindingOrder::of(self, binding)
+    }
+
+    /// These, and others behind them.
+    pub(crate) fn joined(&self, more: &BindingOrder) -> BindingOrder
+        ensures { result.list ≡ self.now.list ++ more.now.list }
+    {
+        BindingOrder::of_both(self, more)
     }
 }
 

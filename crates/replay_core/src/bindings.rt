@@ -4,9 +4,10 @@ ghost use Rattle.std.specs.BTreeMap.{is_at};
 ghost use Rattle.std.specs.Cmp.Lexicographic.{slice_cmp};
 ghost use Rattle.std.specs.Map.{lookup};
 ghost use Rattle.std.specs.Ordering.{nat_cmp};
-ghost use Rattle.replay_core.specs.Found.{Adds, Keeps, first_known};
-ghost use Rattle.replay_core.specs.Labels.{handle_of, is_known};
-ghost use Rattle.replay_core.specs.Views.{meaning_of};
+ghost use Rattle.std.specs.Option.{option_copied, option_to_list};
+ghost use Rattle.replay_core.specs.Found.{Adds, Joins, Keeps, first_known, object_of};
+ghost use Rattle.replay_core.specs.Labels.{is_known};
+ghost use Rattle.replay_core.specs.Views.{kept_apart, meaning_of};
 
 use crate::binding_order::BindingOrder;
 use dev_types::{Handle, Name, NoMemory};
@@ -38,10 +39,11 @@ pub struct Bindings {
 }
 
 /// What labels stand for to a caller in a phase: it knows what was bound in earlier phases, and what
-/// it bound itself.
+/// it bound itself, which may be kept apart.
 #[derive(Drop)]
 pub struct Labels<'a> {
     pub bound: &'a Bindings,
+    pub own: Option<&'a Bindings>,
     pub phase: u64,
     pub caller: u32,
 }
@@ -86,13 +88,16 @@ impl BindingList {
         Ok(BindingList { bindings })
     }
 
-    /// Adds a binding behind the others. The only error is want of memory.
-    fn push(&mut self, binding: Binding) -> Result<(), AllocError>
-        ensures pushed { OnOk result (self.new ≡ self.old ++ binding ∷ []) }
+    /// Adds bindings behind the others. The only error is want of memory.
+    fn append(&mut self, more: BindingList) -> Result<(), NoMemory>
+        ensures appended { OnOk result (self.new ≡ self.old ++ more) }
         ensures kept { OnErr result (self.new ≡ self.old) }
     {
-        self.bindings.push(binding)?;
-        Ok(())
+        let BindingList { mut bindings } = more;
+        match self.bindings.append(&mut bindings) {
+            Ok(()) => Ok(()),
+            Err(_) => Err(NoMemory),
+        }
     }
 
     fn as_slice(&self) -> &[Binding]
@@ -113,14 +118,13 @@ impl Bindings {
         }
     }
 
-    /// The object that a label stands for to a caller in a phase; handle 0 where it does not know
-    /// it.
-    pub fn handle(&self, phase: u64, caller: u32, label: &Name) -> Handle
-        ensures { result ≡ handle_of self.now phase caller label.now }
+    /// The object that a label stands for to a caller in a phase, if it knows the label.
+    pub fn handle(&self, phase: u64, caller: u32, label: &Name) -> Option<Handle>
+        ensures { result ≡ object_of self.now phase caller label.now }
     {
         match self.by_label.get(label) {
             Some(list) => first_known(list.as_slice(), phase, caller),
-            None => Handle(0),
+            None => None,
         }
     }
 
@@ -130,63 +134,121 @@ impl Bindings {
         ensures refused { OnErr result (self.new ≡ self.old) }
     {
         let order = self.order.grown(&binding);
-        add_binding(&mut self.by_label, alloc, binding)?;
+        let label = binding.label.copied();
+        let list = BindingList::of(alloc, binding)?;
+        add_list(&mut self.by_label, label, list)?;
         self.order = order;
         Ok(())
+    }
+
+    /// Binds what a reply gave, if it gave anything. The only error is want of memory; then nothing
+    /// more is bound.
+    pub fn bind_some(&mut self, alloc: Global, binding: Option<Binding>) -> Result<(), NoMemory>
+        ensures bound { OnOk result (self.new ≡ self.old ++ option_to_list binding) }
+        ensures refused { OnErr result (self.new ≡ self.old) }
+    {
+        match binding {
+            Some(binding) => self.bind(alloc, binding),
+            None => Ok(()),
+        }
+    }
+
+    /// These bindings, and behind them others. The only error is want of memory.
+    pub fn joined(self, more: Bindings) -> Result<Bindings, NoMemory>
+        ensures { IfOk result (λ all. all ≡ self ++ more) }
+    {
+        let order = self.order.joined(&more.order);
+        let Bindings {
+            mut by_label,
+            order: _first,
+        } = self;
+        let Bindings {
+            by_label: lists,
+            order: _second,
+        } = more;
+        add_lists(&mut by_label, lists)?;
+        Ok(Bindings { by_label, order })
     }
 }
 
 impl<'a> Labels<'a> {
+    /// The object that the label stands for among those that the caller bound itself, where these are
+    /// kept apart.
+    fn own_handle(&self, label: &Name) -> Option<Handle>
+        ensures { result ≡ object_of (kept_apart (option_copied self.now.own)) self.now.phase
+            self.now.caller label.now }
+    {
+        match self.own {
+            Some(own) => own.handle(self.phase, self.caller, label),
+            None => None,
+        }
+    }
+
     /// The object that the label stands for; handle 0 where the caller does not know it.
     pub fn handle(&self, label: &Name) -> Handle
         ensures { result ≡ meaning_of self.now label.now }
     {
-        self.bound.handle(self.phase, self.caller, label)
+        match self.bound.handle(self.phase, self.caller, label) {
+            Some(handle) => handle,
+            None => self.own_handle(label).unwrap_or(Handle(0)),
+        }
     }
 }
 
-/// Puts the first binding under its label. The only error is want of memory.
+/// Puts the first bindings under a label. The only error is want of memory.
 fn add_first(
     by_label: &mut BTreeMap<Name, BindingList>,
-    alloc: Global,
-    binding: Binding,
+    label: Name,
+    list: BindingList,
 ) -> Result<(), NoMemory>
-    requires { lookup (is_at (slice_cmp nat_cmp binding.label)) by_label.old.entries ≡ None }
-    ensures added { OnOk result (Adds by_label.old.entries binding by_label.new.entries) }
+    requires { lookup (is_at (slice_cmp nat_cmp label)) by_label.old.entries ≡ None }
+    ensures added { OnOk result (Adds by_label.old.entries label list by_label.new.entries) }
     ensures kept { OnErr result (Keeps by_label.old.entries by_label.new.entries) }
 {
-    let label = binding.label.copied();
-    let list = BindingList::of(alloc, binding)?;
     match by_label.insert(label, list) {
         Ok(_) => Ok(()),
         Err(_) => Err(NoMemory),
     }
 }
 
-/// Puts a binding under its label, behind those that stand there. The only error is want of memory.
-fn add_binding(
+/// Puts bindings under a label, behind those that stand there. The only error is want of memory.
+fn add_list(
     by_label: &mut BTreeMap<Name, BindingList>,
-    alloc: Global,
-    binding: Binding,
+    label: Name,
+    list: BindingList,
 ) -> Result<(), NoMemory>
-    ensures added { OnOk result (Adds by_label.old.entries binding by_label.new.entries) }
+    ensures added { OnOk result (Adds by_label.old.entries label list by_label.new.entries) }
     ensures kept { OnErr result (Keeps by_label.old.entries by_label.new.entries) }
 {
-    let Some(list) = by_label.get_mut(&binding.label) else {
-        return add_first(by_label, alloc, binding);
+    let Some(there) = by_label.get_mut(&label) else {
+        return add_first(by_label, label, list);
     };
-    list.push(binding)?;
+    there.append(list)
+}
+
+/// Puts the bindings of each label behind those that stand under it. The only error is want of
+/// memory.
+fn add_lists(
+    by_label: &mut BTreeMap<Name, BindingList>,
+    more: BTreeMap<Name, BindingList>,
+) -> Result<(), NoMemory>
+    ensures { OnOk result (Joins by_label.old.entries more.entries by_label.new.entries) }
+{
+    let mut left = more;
+    while let Some((label, list)) = left.pop_first() {
+        add_list(by_label, label, list)?;
+    }
     Ok(())
 }
 
-/// The object of the first binding of a list that a caller knows in a phase.
-fn first_known(bound: &[Binding], phase: u64, caller: u32) -> Handle
+/// The object of the first binding of a list that a caller knows in a phase, if it knows one.
+fn first_known(bound: &[Binding], phase: u64, caller: u32) -> Option<Handle>
     ensures { result ≡ first_known bound.now phase caller }
 {
     for binding in bound {
         if binding.is_known(phase, caller) {
-            return binding.handle;
+            return Some(binding.handle);
         }
     }
-    Handle(0)
+    None
 }

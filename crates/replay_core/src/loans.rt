@@ -1,5 +1,5 @@
 //! Loans that a replay opens, and the unmaps that end them.
-ghost use Rattle.std.specs.Prelude.{◌≡◌, ◌*◌, ◌≤◌, ◌^◌, ℕ, IfOk, IsTrue, List, OnOk, Option, Some, length, option_to_list, true};
+ghost use Rattle.std.specs.Prelude.{◌≡◌, ◌*◌, ◌≤◌, ◌^◌, ℕ, IfOk, IsTrue, List, Ok, OnOk, Option, Some, length, option_to_list, true};
 ghost use Rattle.call_answers.specs.Named.{block_of};
 ghost use Rattle.dev_types.specs.DataTypes.{byte_size, is_element_type};
 ghost use Rattle.dev_types.specs.declared.handles.Channel.{Channel as Channels};
@@ -15,7 +15,7 @@ use crate::bindings::{Binding, Labels};
 use crate::calls::label_of;
 use crate::writes::{Draft, bytes_of_lent, write_all_lent};
 use array_objects::Lent;
-use dev_types::{Bytes, DataType, Handle, NoMemory};
+use dev_types::{Bytes, DataType, Handle, NoMemory, Refused};
 use object_steps::LentParam;
 use seq_model::{Call, Reply};
 use solo_device::Handed;
@@ -248,4 +248,41 @@ fn unmap_of_frame(h: Handle, reply: &Reply, place: u64) -> Option<Unmap>
     };
     let call = Call::UnmapFrame { h, number: place };
     Some(Unmap::of(call, Handed::Nothing))
+}
+
+/// What the reply to a call of the trace gives: a binding, and the unmap of a loan. `out` is the loan that
+/// was handed out with the reply, and `place` the place of the call in the journal.
+pub fn gained(
+    alloc: Global,
+    labels: Labels<'_>,
+    c: &TraceCall,
+    reply: &Reply,
+    out: Handed,
+    place: u64,
+) -> Result<(Option<Binding>, Option<Unmap>), NoMemory>
+    requires { IsBlank c.now out }
+    ensures binding { IfOk result (λ g. option_to_list g.0
+        ≡ binding_of labels.entry.phase labels.entry.caller c.now reply.now) }
+    ensures unmap { (content : Option Block)
+        → array_of out ≡ loan_by content (meaning_of labels.entry) c.now reply.now
+        → IfOk result (λ g. g.1
+        ≡ unmap_by content place (meaning_of labels.entry) c.now reply.now) }
+{
+    let unmap = unmap_of(alloc, &labels, c, reply, out, place)?;
+    Ok((binding_of(labels.phase, labels.caller, c, reply), unmap))
+}
+
+/// What a call made; where it was not made, want of memory. A loan that comes back is given up.
+pub fn made_or_short(
+    tried: Result<(Reply, Handed), (Refused, Call, Handed)>,
+) -> Result<(Reply, Handed), NoMemory>
+    ensures { IfOk result (λ made. tried ≡ Ok made) }
+{
+    match tried {
+        Ok(made) => Ok(made),
+        Err((_refused, _call, loan)) => {
+            give_up(loan);
+            Err(NoMemory)
+        }
+    }
 }

@@ -22,9 +22,9 @@ ghost use Rattle.solo_device.specs.OneThread.{asked_flight, ready_for, with_call
 
 use crate::bindings::{Binding, Bindings, Labels};
 use crate::calls::{call_of, opens};
-use crate::loans::{Unmap, binding_of, give_up, unmap_of};
+use crate::loans::{Unmap, gained, give_up, made_or_short};
 use crate::notices::NoticeList;
-use dev_types::{NoMemory, Refused};
+use dev_types::NoMemory;
 use seq_model::{Call, Journal, Reply};
 use solo_device::{Ended, Handed, SoloDevice};
 use std::alloc::{AllocError, Global};
@@ -54,43 +54,6 @@ impl Model for Replay {
       bound = r.bound;
       loans = r.loans.items;
     } };
-}
-
-/// What the reply to a call of the trace gives: a binding, and the unmap of a loan. `out` is the loan that
-/// was handed out with the reply, and `place` the place of the call in the journal.
-fn gained(
-    alloc: Global,
-    labels: Labels<'_>,
-    c: &TraceCall,
-    reply: &Reply,
-    out: Handed,
-    place: u64,
-) -> Result<(Option<Binding>, Option<Unmap>), NoMemory>
-    requires { IsBlank c.now out }
-    ensures binding { IfOk result (λ g. option_to_list g.0
-        ≡ binding_of labels.entry.phase labels.entry.caller c.now reply.now) }
-    ensures unmap { (content : Option Block)
-        → array_of out ≡ loan_by content (meaning_of labels.entry) c.now reply.now
-        → IfOk result (λ g. g.1
-        ≡ unmap_by content place (meaning_of labels.entry) c.now reply.now) }
-{
-    let unmap = unmap_of(alloc, &labels, c, reply, out, place)?;
-    Ok((binding_of(labels.phase, labels.caller, c, reply), unmap))
-}
-
-/// What a call made; where it was not made, want of memory. A loan that comes back is given up.
-fn made_or_short(
-    tried: Result<(Reply, Handed), (Refused, Call, Handed)>,
-) -> Result<(Reply, Handed), NoMemory>
-    ensures { IfOk result (λ made. tried ≡ Ok made) }
-{
-    match tried {
-        Ok(made) => Ok(made),
-        Err((_refused, _call, loan)) => {
-            give_up(loan);
-            Err(NoMemory)
-        }
-    }
 }
 
 impl Replay {
@@ -144,6 +107,7 @@ impl Replay {
     {
         let labels = Labels {
             bound: &self.bound,
+            own: None,
             phase,
             caller,
         };
@@ -188,10 +152,7 @@ impl Replay {
     fn bind(&mut self, alloc: Global, binding: Option<Binding>) -> Result<(), NoMemory>
         ensures { OnOk result (self.new ≡ record self.old { bound = self.old.bound ++ option_to_list binding }) }
     {
-        if let Some(binding) = binding {
-            self.bound.bind(alloc, binding)?;
-        }
-        Ok(())
+        self.bound.bind_some(alloc, binding)
     }
 
     /// Ends a loan by its unmap, without the elements that name what is not there.
@@ -273,6 +234,7 @@ impl Replay {
     {
         let labels = Labels {
             bound: &self.bound,
+            own: None,
             phase,
             caller,
         };

@@ -25,6 +25,7 @@ fn a_label_is_known_to_its_own_caller_and_in_later_phases(rt: HostRuntime) -> Re
     for (phase, caller, handle) in [(1, 2, 7), (1, 3, 8), (1, 4, 0), (2, 3, 7), (0, 2, 0)] {
         let labels = Labels {
             bound: &bound,
+            own: None,
             phase,
             caller,
         };
@@ -38,6 +39,7 @@ fn elements_stand_at_their_stride(rt: HostRuntime) -> Result<(), Fail> {
     let bound = Bindings::new(rt.alloc());
     let labels = Labels {
         bound: &bound,
+        own: None,
         phase: 0,
         caller: 0,
     };
@@ -64,6 +66,7 @@ fn what_has_no_place_is_not_written(rt: HostRuntime) -> Result<(), Fail> {
     let bound = Bindings::new(rt.alloc());
     let labels = Labels {
         bound: &bound,
+        own: None,
         phase: 0,
         caller: 0,
     };
